@@ -1,0 +1,13 @@
+pub mod Text
+pub mod Tree
+pub mod Reading
+pub mod Names
+pub mod Values
+pub mod Machine
+pub mod Rows
+pub mod Plain
+pub mod Explore
+pub mod Pool
+pub mod Layout
+pub mod Calls
+pub mod Cases

@@ -1,0 +1,343 @@
+-- "One command": the machine, once, over any model of terms, as source 003 makes GIL parametric in the state model. A command is a row
+-- of actions by `do`; an action passes the model's world on and gives an answer or an error number. Assumes nothing.
+use Prim.Native.Nat.{ℕ, suc}
+use mathlib.Core.Bool.{Bool, true, false, not, _&&_, _||_}
+use mathlib.Core.List.{List, [], _∷_}
+use mathlib.Core.Option.{Option, none, some}
+use lib.ListN.{length, getD, set, replicate}
+use lib.Dec.{ltb, leb, eqb}
+use Rattle.gil.specs.Tree.{Op, Expr, num, bool, var, neg, bin, Cmd, assign, ifgoto, call, lookup, mutate, dispose, uSym, iSym, return, fail, vanish}
+use Rattle.gil.specs.Names.{Procedure, Program}
+use Rattle.gil.specs.Values.{Constant, number, boolean, location, Sort, numbers, booleans, locations, sortOf, sameSort, Fit, right, wrong, unlike, fit, work, workNot, Value, const, term, Node}
+use Rattle.gil.specs.Values as Values
+
+infixl 10 _>>=_
+infixl 10 _>>_
+-- What a term is, and the world in which terms are made: nothing where all inputs are known, the pool of terms while exploring.
+pub record Model : Type 1 where
+  pub World : Type 0
+  pub Term : Type 0
+  pub sort : Term → Sort
+  pub made : World → ℕ
+  pub make : World → Node Term → World × Value Term
+
+-- a call stack's frame of source 003, ⟨f, x, ρ, i⟩, without its store: the caller, the command it goes on at, the variable it assigns to
+pub record Caller : Type 0 where
+  pub procedure : ℕ
+  pub next : ℕ
+  pub target : ℕ
+
+-- where a path stands and what it has used up: no values
+pub record Control : Type 0 where
+  pub procedure : ℕ
+  pub command : ℕ
+  pub callers : List Caller
+  pub inputs : ℕ
+  pub locations : ℕ
+
+-- a frame's variables, bound or not, in order of first appearance
+abbrev pub Store : Type 0 → Type 0
+Store T = List (Option (Value T))
+
+pub record Cell (T : Type 0) : Type 0 where
+  pub location : ℕ
+  pub property : ℕ
+  pub value : Value T
+
+-- `saved` are the callers' variables, one store for each caller
+pub record State (T : Type 0) : Type 0 where
+  pub control : Control
+  pub variables : Store T
+  pub saved : List (Store T)
+  pub cells : List (Cell T)
+
+-- "Outcomes: returned, failed, vanished, error" are how a path ends; a cut is no end
+pub data End (T : Type 0) : Type 0 where
+  returned : Value T → End T
+  failed : Value T → End T
+  vanished : End T
+  error : ℕ → End T
+
+-- what a command comes to: on in a new state, the path's end, or a fork on a term (the state where it is true, and where false)
+pub data Next (T : Type 0) : Type 0 where
+  on : State T → Next T
+  ends : End T → Next T
+  fork : T → State T → State T → Next T
+
+-- an action's answer in a world: a value, or an error number; the terms made before an error stay made
+pub data Result (W A : Type 0) : Type 0 where
+  ok : W → A → Result W A
+  err : W → ℕ → Result W A
+
+-- where control goes
+unfoldable pub goto : ℕ → Control → Control
+goto n c = record { procedure = c .procedure; command = n; callers = c .callers; inputs = c .inputs; locations = c .locations }
+
+unfoldable pub onward : Control → Control
+onward c = goto (suc (c .command)) c
+
+unfoldable pub entered : ℕ → ℕ → Control → Control
+entered f x c =
+    record {
+      procedure = f;
+      command = 0;
+      callers = record { procedure = c .procedure; next = suc (c .command); target = x } ∷ c .callers;
+      inputs = c .inputs;
+      locations = c .locations;
+    }
+
+unfoldable pub backTo : Caller → List Caller → Control → Control
+backTo k ks c = record { procedure = k .procedure; command = k .next; callers = ks; inputs = c .inputs; locations = c .locations }
+
+unfoldable pub withInput : Control → Control
+withInput c =
+    record { procedure = c .procedure; command = c .command; callers = c .callers; inputs = suc (c .inputs); locations = c .locations }
+
+unfoldable pub withLocation : Control → Control
+withLocation c =
+    record { procedure = c .procedure; command = c .command; callers = c .callers; inputs = c .inputs; locations = suc (c .locations) }
+
+-- "main is the first" frame
+unfoldable pub frames : Control → ℕ
+frames c = suc (length (c .callers))
+
+-- Commands are found by their procedure and number. In an accepted program they are all there (refusals 6, 7 and 8).
+unfoldable pub procedureAt : Program → ℕ → Procedure
+procedureAt p f = getD (p .procedures) f (record { name = []; variables = 0; body = [] })
+
+unfoldable pub commandAt : Program → Control → Cmd ℕ
+commandAt p c = getD (procedureAt p (c .procedure) .body) (c .command) vanish
+
+module _ {T : Type 0} where
+  unfoldable pub steer : (Control → Control) → State T → State T
+  steer f s = record { control = f (s .control); variables = s .variables; saved = s .saved; cells = s .cells }
+
+  -- a variable assigned, and on to the next command
+  unfoldable pub assigned : ℕ → Value T → State T → State T
+  assigned x v s =
+      record { control = onward (s .control); variables = set (s .variables) x (some v); saved = s .saved; cells = s .cells }
+
+  unfoldable pub withCells : List (Cell T) → State T → State T
+  withCells cs s = record { control = s .control; variables = s .variables; saved = s .saved; cells = cs }
+
+  -- "a frame in which only the parameter is bound"
+  unfoldable pub frame : ℕ → Value T → Store T
+  frame n v = set (replicate n none) 0 (some v)
+
+  unfoldable pub topStore : List (Store T) → Store T
+  topStore [] = []
+  topStore (ρ ∷ ρs) = ρ
+
+  unfoldable pub belowTop : List (Store T) → List (Store T)
+  belowTop [] = []
+  belowTop (ρ ∷ ρs) = ρs
+
+  -- a frame opened for a call, and closed by a return
+  unfoldable pub opened : Program → ℕ → ℕ → Value T → State T → State T
+  opened p x f v s =
+      record {
+        control = entered f x (s .control);
+        variables = frame (procedureAt p f .variables) v;
+        saved = s .variables ∷ s .saved;
+        cells = s .cells;
+      }
+
+  unfoldable pub closed : Caller → List Caller → Value T → State T → State T
+  closed k ks v s =
+      record {
+        control = backTo k ks (s .control);
+        variables = set (topStore (s .saved)) (k .target) (some v);
+        saved = belowTop (s .saved);
+        cells = s .cells;
+      }
+
+  -- "return in the first frame ends the run, in any other it assigns to the caller's variable and goes on after the call"
+  unfoldable pub returnsTo : List Caller → Value T → State T → Next T
+  returnsTo [] v s = ends (returned v)
+  returnsTo (k ∷ ks) v s = on (closed k ks v s)
+
+  -- "Cells are kept in order of location, then of property by its first place in the text"
+  unfoldable pub isAt : ℕ → ℕ → Cell T → Bool
+  isAt l q c = eqb l (c .location) && eqb q (c .property)
+
+  unfoldable pub isBefore : ℕ → ℕ → Cell T → Bool
+  isBefore l q c = ltb l (c .location) || eqb l (c .location) && ltb q (c .property)
+
+  unfoldable pub cellAt : ℕ → ℕ → List (Cell T) → Option (Value T)
+  cellAt l q [] = none
+  cellAt l q (c ∷ cs) = elim (isAt l q c) [ true ↦ some (c .value) | false ↦ cellAt l q cs ]
+
+  -- "`mutate` writes the cell, adding it if absent"
+  unfoldable pub putCell : ℕ → ℕ → Value T → List (Cell T) → List (Cell T)
+  putCell l q v [] = record { location = l; property = q; value = v } ∷ []
+  putCell l q v (c ∷ cs) =
+      elim (isAt l q c) [
+        | true ↦ record { location = l; property = q; value = v } ∷ cs
+        | false ↦ elim (isBefore l q c) [
+          | true ↦ record { location = l; property = q; value = v } ∷ c ∷ cs
+          | false ↦ c ∷ putCell l q v cs
+        ]
+      ]
+
+  -- "`dispose` removes all cells of the location, also if there are none"
+  unfoldable pub withoutCells : ℕ → List (Cell T) → List (Cell T)
+  withoutCells l [] = []
+  withoutCells l (c ∷ cs) = elim (eqb l (c .location)) [ true ↦ withoutCells l cs | false ↦ c ∷ withoutCells l cs ]
+
+  -- "`main` starts with its parameter at 0"
+  unfoldable pub start : Program → State T
+  start p =
+      record {
+        control = record { procedure = p .main; command = 0; callers = []; inputs = 0; locations = 0 };
+        variables = frame (procedureAt p (p .main) .variables) (const (number 0));
+        saved = [];
+        cells = [];
+      }
+
+module _ (M : Model) where
+  abbrev pub Act : Type 0 → Type 0
+  Act A = M .World → Result (M .World) A
+
+  abbrev pub Val : Type 0
+  Val = Value (M .Term)
+
+-- actions in a row, by `do`: an error ends them
+module _ {W : Type 0} where
+  unfoldable pub andThen : {A B : Type 0} → Result W A → (A → W → Result W B) → Result W B
+  andThen (ok w a) f = f a w
+  andThen (err w n) f = err w n
+
+  unfoldable pub _>>=_ : {A B : Type 0} → (W → Result W A) → (A → W → Result W B) → W → Result W B
+  _>>=_ m f w = andThen (m w) f
+
+  unfoldable pub _>>_ : {A B : Type 0} → (W → Result W A) → (W → Result W B) → W → Result W B
+  _>>_ m f w = andThen (m w) (λ a. f)
+
+  unfoldable pub give : {A : Type 0} → A → W → Result W A
+  give a w = ok w a
+
+  unfoldable pub stop : {A : Type 0} → ℕ → W → Result W A
+  stop n w = err w n
+
+  -- an error number where a test fails; where there is nothing
+  unfoldable pub must : Bool → ℕ → W → Result W (Unit {0})
+  must true n = give tt
+  must false n = stop n
+
+  unfoldable pub there : {A : Type 0} → Option A → ℕ → W → Result W A
+  there none n = stop n
+  there (some a) n = give a
+
+module _ (M : Model) where
+  unfoldable pub sortIn : Val M → Sort
+  sortIn (const c) = sortOf c
+  sortIn (term t) = M .sort t
+
+  unfoldable pub making : Node (M .Term) → Act M (Val M)
+  making n w = let r = M .make w n in ok (r .0) (r .1)
+
+  -- "An operator is worked out at once exactly if all its operands are constants"; "Otherwise, where the sorts are right, it makes one term"
+  unfoldable pub combine : Op → Val M → Val M → Act M (Val M)
+  combine o (const a) (const b) = give (const (work o a b))
+  combine o (const a) (term u) = making (Values.bin o (const a) (term u))
+  combine o (term t) (const b) = making (Values.bin o (term t) (const b))
+  combine o (term t) (term u) = making (Values.bin o (term t) (term u))
+
+  -- "or if it is `=` on two sorts, which is the constant false"
+  unfoldable pub fitted : Fit → Op → Val M → Val M → Act M (Val M)
+  fitted right o a b = combine o a b
+  fitted wrong o a b = stop 2
+  fitted unlike o a b = give (const (boolean false))
+
+  unfoldable pub operate : Op → Val M → Val M → Act M (Val M)
+  operate o a b = fitted (fit o (sortIn a) (sortIn b)) o a b
+
+  unfoldable pub negated : Val M → Act M (Val M)
+  negated (const c) = give (const (workNot c))
+  negated (term t) = making (Values.neg (term t))
+
+  unfoldable pub negate : Val M → Act M (Val M)
+  negate a = do
+    must (sameSort booleans (sortIn a)) 2
+    negated a
+
+  -- "Both operands are always evaluated, left first, and only then are their sorts tested."
+  unfoldable pub eval : Store (M .Term) → Expr ℕ → Act M (Val M)
+  eval ρ (num n) = give (const (number n))
+  eval ρ (bool b) = give (const (boolean b))
+  eval ρ (var x) = there (getD ρ x none) 1
+  eval ρ (neg e) = do
+    a ← eval ρ e
+    negate a
+  eval ρ (bin o e d) = do
+    a ← eval ρ e
+    b ← eval ρ d
+    operate o a b
+
+  -- "an action's first operand a location"
+  unfoldable pub theLocation : Val M → Act M ℕ
+  theLocation (const (number n)) = stop 2
+  theLocation (const (boolean b)) = stop 2
+  theLocation (const (location l)) = give l
+  theLocation (term t) = stop 2
+
+  -- "`ifgoto` on true goes to n, on false to the next command"; "a number term is error 2"
+  unfoldable pub jump : ℕ → State (M .Term) → Val M → Act M (Next (M .Term))
+  jump n s (const (number k)) = stop 2
+  jump n s (const (boolean true)) = give (on (steer (goto n) s))
+  jump n s (const (boolean false)) = give (on (steer onward s))
+  jump n s (const (location l)) = stop 2
+  jump n s (term t) = must (sameSort booleans (M .sort t)) 2 >> give (fork t (steer (goto n) s) (steer onward s))
+
+  unfoldable pub exec : Program → State (M .Term) → Cmd ℕ → Act M (Next (M .Term))
+  exec p s (assign x e) = do
+    v ← eval (s .variables) e
+    give (on (assigned x v s))
+  exec p s (ifgoto e n) = do
+    v ← eval (s .variables) e
+    jump n s v
+  exec p s (call x f e) = do
+    v ← eval (s .variables) e
+    must (ltb (frames (s .control)) 8) 4
+    give (on (opened p x f v s))
+  exec p s (lookup x e q) = do
+    v ← eval (s .variables) e
+    l ← theLocation v
+    u ← there (cellAt l q (s .cells)) 3
+    give (on (assigned x u s))
+  exec p s (mutate x e q d) = do
+    v ← eval (s .variables) e
+    u ← eval (s .variables) d
+    l ← theLocation v
+    must (leb (length (putCell l q u (s .cells))) 32) 7
+    give (on (assigned x (const (boolean true)) (withCells (putCell l q u (s .cells)) s)))
+  exec p s (dispose x e) = do
+    v ← eval (s .variables) e
+    l ← theLocation v
+    give (on (assigned x (const (boolean true)) (withCells (withoutCells l (s .cells)) s)))
+  exec p s (uSym x j) = do
+    must (ltb (s .control .locations) 16) 6
+    give (on (assigned x (const (location (s .control .locations))) (steer withLocation s)))
+  exec p s (iSym x j) = do
+    must (ltb (s .control .inputs) 16) 5
+    v ← making (Values.input (s .control .inputs))
+    give (on (assigned x v (steer withInput s)))
+  exec p s (return e) = do
+    v ← eval (s .variables) e
+    give (returnsTo (s .control .callers) v s)
+  exec p s (fail e) = do
+    v ← eval (s .variables) e
+    give (ends (failed v))
+  exec p s vanish = give (ends vanished)
+
+-- one command's outcome: the world after it, and what comes next
+pub record Moved (M : Model) : Type 0 where
+  pub world : M .World
+  pub next : Next (M .Term)
+
+unfoldable pub settled : (M : Model) → Result (M .World) (Next (M .Term)) → Moved M
+settled M (ok w n) = record { world = w; next = n }
+settled M (err w n) = record { world = w; next = ends (error n) }
+
+unfoldable pub move : (M : Model) → Program → M .World → State (M .Term) → Moved M
+move M p w s = settled M (exec M p s (commandAt p (s .control)) w)
