@@ -1,0 +1,4 @@
+-- Every accepted text gives a well-formed program: what the engine may assume of a program, the reader's texts all have. Assumes nothing.
+pub mod Lists
+pub mod Places
+pub mod Tokens

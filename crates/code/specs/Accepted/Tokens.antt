@@ -1,0 +1,195 @@
+-- How many bytes a token takes, and what its run can be: a number below 2³², a site below 256, a reserved word of two characters or more.
+-- Assumes nothing.
+use Prim.Native.Nat.{ℕ, zero, suc, _+_, _-_, _≤_, _<_}
+use native.Mathlib.Omega.{arith}
+use mathlib.Core.Path.{_≡_, refl, sym, ap, _∙_}
+use mathlib.Core.Bool.{Bool, true, false, _&&_}
+use mathlib.Core.List.{List, [], _∷_}
+use mathlib.Core.Option.{Option} 
+use lib.ListN.{length, take, drop, length-take, length-drop}
+use lib.Dec.{leb, ltb, eqb}
+use borrow.Author.Tests.{ltb-false, leb-true}
+use Rattle.gil.specs.Text.{Token, word, property, becomes, mark, ended, Lexeme, span, part, within, inRun, white, quoted, coloned, marked, tokenFrom, skipWhite, lexeme, Key, reservedWords, uSymPrefix, iSymPrefix, bytes, Word, name, number, key, uSite, iSite, fault, same, find, allDigits, plainZero, decimalFrom, numeral, numbered, symbol, identified, letter, identifier, wordOf}
+use Rattle.gil.specs.Tree.{Name}
+use Rattle.gil.specs.Reading.{asWord}
+use Rattle.gil.specs.Names.{any}
+use Rattle.code.specs.WellFormed.{Each, none, more}
+use Rattle.code.specs.Accepted.Lists.{and-true, choose, none-passes}
+use Rattle.code.specs.Accepted.Places.{same-equal}
+
+-- the bytes that a token takes at least
+unfoldable pub tokenBytes : Token → ℕ
+tokenBytes (word w) = length w
+tokenBytes (property p) = suc (suc (length p))
+tokenBytes becomes = 2
+tokenBytes (mark b) = 1
+tokenBytes ended = 0
+
+-- a token read from a place on: it ends in the text, past its bytes
+pub record Ends (s : List ℕ) (at : ℕ) (l : Lexeme) : Type 0 where
+  pub takes : at + tokenBytes (l .token) ≤ l .next
+  pub inside : l .next ≤ length s
+
+pub span-length : (p : ℕ → Bool) (s : List ℕ) → span p s ≤ length s
+unfolding span
+span-length p [] = omega arith
+span-length p (b ∷ s) =
+    choose
+    (λ (n : ℕ). n ≤ suc (length s))
+    (p b)
+    (suc (span p s))
+    0
+    (λ _. let h : span p s ≤ length s = span-length p s in omega arith)
+    (λ _. omega arith)
+
+part-length : (s : List ℕ) (i n : ℕ) → length (part s i n) ≤ n
+unfolding part
+part-length s i n = simp length-take (omega arith)
+
+-- in the four below, what is left of the text stands in its place: `at ≤ i`, and the rest ends where the text does
+module _ (s : List ℕ) (at i : ℕ) (from : at ≤ i) where
+  quoted-ends : (n : ℕ) (after : List ℕ) → suc i + (n + length after) ≤ length s → Ends s at (quoted s i n after)
+  unfolding quoted tokenBytes
+  quoted-ends n [] h = record { takes = omega arith; inside = omega arith }
+  quoted-ends n (b ∷ after) h =
+      choose
+      (Ends s at)
+      (eqb b 34 && within 1 16 n)
+      (record { token = property (part s (suc i) n); next = suc (suc (i + n)) })
+      (record { token = mark 34; next = suc i })
+      (λ _. record { takes = omega (arith, part-length s (suc i) n); inside = omega arith })
+      (λ _. record { takes = omega arith; inside = omega arith })
+
+  coloned-ends : (after : List ℕ) → suc i + length after ≤ length s → Ends s at (coloned i after)
+  unfolding coloned tokenBytes
+  coloned-ends [] h = record { takes = omega arith; inside = omega arith }
+  coloned-ends (b ∷ after) h =
+      choose
+      (Ends s at)
+      (eqb b 61)
+      (record { token = becomes; next = suc (suc i) })
+      (record { token = mark 58; next = suc i })
+      (λ _. record { takes = omega arith; inside = omega arith })
+      (λ _. record { takes = omega arith; inside = omega arith })
+
+  marked-ends : (b : ℕ) (after : List ℕ) → suc i + length after ≤ length s → Ends s at (marked s i b after)
+  unfolding marked tokenBytes
+  marked-ends b after h =
+      let n : ℕ = span inRun after in
+      choose
+      (Ends s at)
+      (eqb b 34)
+      (quoted s i n (drop n after))
+      (elim (eqb b 58) [ true ↦ coloned i after | false ↦ record { token = mark b; next = suc i } ])
+      (λ _. quoted-ends n (drop n after) (omega (arith, length-drop n after, span-length inRun after)))
+      (λ _.
+        choose
+        (Ends s at)
+        (eqb b 58)
+        (coloned i after)
+        (record { token = mark b; next = suc i })
+        (λ _. coloned-ends after h)
+        (λ _. record { takes = omega arith; inside = omega arith }))
+
+  tokenFrom-ends : (rest : List ℕ) → i + length rest ≤ length s → Ends s at (tokenFrom s i rest)
+  unfolding tokenFrom tokenBytes
+  tokenFrom-ends [] h = record { takes = omega arith; inside = omega arith }
+  tokenFrom-ends (b ∷ after) h =
+      let n : ℕ = suc (span inRun after) in
+      choose
+      (Ends s at)
+      (inRun b)
+      (record { token = word (part s i n); next = i + n })
+      (marked s i b after)
+      (λ _. record { takes = omega (arith, part-length s i n); inside = omega (arith, span-length inRun after) })
+      (λ _. marked-ends b after (omega arith))
+
+pub lexeme-ends : (s : List ℕ) (at : ℕ) → at ≤ length s → Ends s at (lexeme s at)
+unfolding lexeme skipWhite
+lexeme-ends s at h =
+    let i : ℕ = at + span white (drop at s) in
+    let j : i ≤ length s = omega (arith, span-length white (drop at s), length-drop at s) in
+    tokenFrom-ends s at i (omega arith) (drop i s) (omega (arith, length-drop i s))
+
+-- what a run of so many bytes can be
+pub data WordFits (size : ℕ) : Word → Type 0 where
+  aName : {w : Name} → 1 ≤ size → WordFits size (name w)
+  aNumber : {n : ℕ} → 1 ≤ size → n < 4294967296 → WordFits size (number n)
+  aKey : {k : Key} → 2 ≤ size → WordFits size (key k)
+  aUSite : {j : ℕ} → 1 ≤ size → j < 256 → WordFits size (uSite j)
+  anISite : {j : ℕ} → 1 ≤ size → j < 256 → WordFits size (iSite j)
+  aFault : WordFits size fault
+
+-- a numeral is within its limit
+numbered-fits : {size : ℕ} (limit : ℕ) (f : ℕ → Word) → ((n : ℕ) → n ≤ limit → WordFits size (f n)) → (ds : List ℕ) → WordFits size (numbered (numeral limit ds) f)
+unfolding numbered numeral
+numbered-fits {size} limit f h ds =
+    choose
+    (λ (o : Option ℕ). WordFits size (numbered o f))
+    (allDigits ds && plainZero ds && leb (decimalFrom 0 ds) limit)
+    (Option.some (decimalFrom 0 ds))
+    Option.none
+    (λ t. h (decimalFrom 0 ds) (leb-true (decimalFrom 0 ds) limit (and-true (allDigits ds && plainZero ds) (leb (decimalFrom 0 ds) limit) t .1)))
+    (λ _. aFault)
+
+symbol-fits : {size : ℕ} → 1 ≤ size → (w : List ℕ) → WordFits size (symbol w)
+unfolding symbol
+symbol-fits {size} h w =
+    choose
+    (WordFits size)
+    (same (take 5 w) uSymPrefix)
+    (numbered (numeral 255 (drop 5 w)) uSite)
+    (elim (same (take 5 w) iSymPrefix) [ true ↦ numbered (numeral 255 (drop 5 w)) iSite | false ↦ name w ])
+    (λ _. numbered-fits 255 uSite (λ n k. aUSite h (omega arith)) (drop 5 w))
+    (λ _.
+      choose
+      (WordFits size)
+      (same (take 5 w) iSymPrefix)
+      (numbered (numeral 255 (drop 5 w)) iSite)
+      (name w)
+      (λ _. numbered-fits 255 iSite (λ n k. anISite h (omega arith)) (drop 5 w))
+      (λ _. aName h))
+
+-- a run of one character is never a reserved word
+reserved-long : Each (λ e. ltb (length (e .0)) 2 ≡ false) reservedWords
+unfolding reservedWords bytes any
+reserved-long = none-passes (λ e. ltb (length (e .0)) 2) reservedWords refl
+
+identified-fits : (w : List ℕ) → 1 ≤ length w → (l : List (List ℕ × Key)) → Each (λ e. ltb (length (e .0)) 2 ≡ false) l → WordFits (length w) (identified w (find w l))
+unfolding identified find
+identified-fits w h [] none = symbol-fits h w
+identified-fits w h (e ∷ l) (more long longs) =
+    choose
+    (λ (o : Option Key). WordFits (length w) (identified w o))
+    (same w (e .0))
+    (Option.some (e .1))
+    (find w l)
+    (λ t. aKey (omega (arith, ltb-false (length (e .0)) 2 long, ap length (same-equal w (e .0) t))))
+    (λ _. identified-fits w h l longs)
+
+pub wordOf-fits : (w : List ℕ) → WordFits (length w) (wordOf w)
+unfolding wordOf identifier
+wordOf-fits [] = aFault
+wordOf-fits (b ∷ w) =
+    choose
+    (WordFits (suc (length w)))
+    (letter b)
+    (identifier (b ∷ w))
+    (numbered (numeral 4294967295 (b ∷ w)) number)
+    (λ _.
+      choose
+      (WordFits (suc (length w)))
+      (leb (suc (length w)) 16)
+      (identified (b ∷ w) (find (b ∷ w) reservedWords))
+      fault
+      (λ _. identified-fits (b ∷ w) (omega arith) reservedWords reserved-long)
+      (λ _. aFault))
+    (λ _. numbered-fits 4294967295 number (λ n k. aNumber (omega arith) (omega arith)) (b ∷ w))
+
+pub asWord-fits : (t : Token) → WordFits (tokenBytes t) (asWord t)
+unfolding asWord tokenBytes
+asWord-fits (word w) = wordOf-fits w
+asWord-fits (property p) = aFault
+asWord-fits becomes = aFault
+asWord-fits (mark b) = aFault
+asWord-fits ended = aFault
