@@ -34,11 +34,7 @@ pub placeOf-below : (w : Name) (ns : List Name) → has w ns ≡ true → placeO
 unfolding has any placeOf
 placeOf-below w [] e = let z : _≡_ {A = ℕ} 0 1 = cc in omega arith
 placeOf-below w (n ∷ ns) e =
-    choose
-    (λ (k : ℕ). k < suc (length ns))
-    (same w n)
-    0
-    (suc (placeOf w ns))
+    choose (λ (k : ℕ). k < suc (length ns)) (same w n)
     (λ _. omega arith)
     (λ f. let h : placeOf w ns < length ns = placeOf-below w ns (rw f at e) in omega arith)
 
@@ -46,22 +42,14 @@ placeOf-below w (n ∷ ns) e =
 pub withName-keeps : (ns : List Name) (v w : Name) → has w ns ≡ true → has w (withName ns v) ≡ true
 unfolding has withName
 withName-keeps ns v w e =
-    choose
-    (λ (l : List Name). any (same w) l ≡ true)
-    (any (same v) ns)
-    ns
-    (ns ++ v ∷ [])
+    choose (λ (l : List Name). any (same w) l ≡ true) (any (same v) ns)
     (λ _. e)
     (λ _. any-append (same w) ns (v ∷ []) ∙ ap (λ (b : Bool). b || any (same w) (v ∷ [])) e)
 
 pub withName-has : (ns : List Name) (w : Name) → has w (withName ns w) ≡ true
 unfolding has any withName
 withName-has ns w =
-    choose
-    (λ (l : List Name). any (same w) l ≡ true)
-    (any (same w) ns)
-    ns
-    (ns ++ w ∷ [])
+    choose (λ (l : List Name). any (same w) l ≡ true) (any (same w) ns)
     (λ t. t)
     (λ _. any-append (same w) ns (w ∷ []) ∙ or-right (any (same w) ns) (same w w || false) (rw (same-itself w)))
 

@@ -34,11 +34,7 @@ pub span-length : (p : ℕ → Bool) (s : List ℕ) → span p s ≤ length s
 unfolding span
 span-length p [] = omega arith
 span-length p (b ∷ s) =
-    choose
-    (λ (n : ℕ). n ≤ suc (length s))
-    (p b)
-    (suc (span p s))
-    0
+    choose (λ (n : ℕ). n ≤ suc (length s)) (p b)
     (λ _. let h : span p s ≤ length s = span-length p s in omega arith)
     (λ _. omega arith)
 
@@ -52,11 +48,7 @@ module _ (s : List ℕ) (at i : ℕ) (from : at ≤ i) where
   unfolding quoted tokenBytes
   quoted-ends n [] h = record { takes = omega arith; inside = omega arith }
   quoted-ends n (b ∷ after) h =
-      choose
-      (Ends s at)
-      (eqb b 34 && within 1 16 n)
-      (record { token = property (part s (suc i) n); next = suc (suc (i + n)) })
-      (record { token = mark 34; next = suc i })
+      choose (Ends s at) (eqb b 34 && within 1 16 n)
       (λ _. record { takes = omega (arith, part-length s (suc i) n); inside = omega arith })
       (λ _. record { takes = omega arith; inside = omega arith })
 
@@ -64,11 +56,7 @@ module _ (s : List ℕ) (at i : ℕ) (from : at ≤ i) where
   unfolding coloned tokenBytes
   coloned-ends [] h = record { takes = omega arith; inside = omega arith }
   coloned-ends (b ∷ after) h =
-      choose
-      (Ends s at)
-      (eqb b 61)
-      (record { token = becomes; next = suc (suc i) })
-      (record { token = mark 58; next = suc i })
+      choose (Ends s at) (eqb b 61)
       (λ _. record { takes = omega arith; inside = omega arith })
       (λ _. record { takes = omega arith; inside = omega arith })
 
@@ -76,18 +64,10 @@ module _ (s : List ℕ) (at i : ℕ) (from : at ≤ i) where
   unfolding marked tokenBytes
   marked-ends b after h =
       let n : ℕ = span inRun after in
-      choose
-      (Ends s at)
-      (eqb b 34)
-      (quoted s i n (drop n after))
-      (elim (eqb b 58) [ true ↦ coloned i after | false ↦ record { token = mark b; next = suc i } ])
+      choose (Ends s at) (eqb b 34)
       (λ _. quoted-ends n (drop n after) (omega (arith, length-drop n after, span-length inRun after)))
       (λ _.
-        choose
-        (Ends s at)
-        (eqb b 58)
-        (coloned i after)
-        (record { token = mark b; next = suc i })
+        choose (Ends s at) (eqb b 58)
         (λ _. coloned-ends after h)
         (λ _. record { takes = omega arith; inside = omega arith }))
 
@@ -96,11 +76,7 @@ module _ (s : List ℕ) (at i : ℕ) (from : at ≤ i) where
   tokenFrom-ends [] h = record { takes = omega arith; inside = omega arith }
   tokenFrom-ends (b ∷ after) h =
       let n : ℕ = suc (span inRun after) in
-      choose
-      (Ends s at)
-      (inRun b)
-      (record { token = word (part s i n); next = i + n })
-      (marked s i b after)
+      choose (Ends s at) (inRun b)
       (λ _. record { takes = omega (arith, part-length s i n); inside = omega (arith, span-length inRun after) })
       (λ _. marked-ends b after (omega arith))
 
@@ -124,29 +100,17 @@ pub data WordFits (size : ℕ) : Word → Type 0 where
 numbered-fits : {size : ℕ} (limit : ℕ) (f : ℕ → Word) → ((n : ℕ) → n ≤ limit → WordFits size (f n)) → (ds : List ℕ) → WordFits size (numbered (numeral limit ds) f)
 unfolding numbered numeral
 numbered-fits {size} limit f h ds =
-    choose
-    (λ (o : Option ℕ). WordFits size (numbered o f))
-    (allDigits ds && plainZero ds && leb (decimalFrom 0 ds) limit)
-    (Option.some (decimalFrom 0 ds))
-    Option.none
+    choose (λ (o : Option ℕ). WordFits size (numbered o f)) (allDigits ds && plainZero ds && leb (decimalFrom 0 ds) limit)
     (λ t. h (decimalFrom 0 ds) (leb-true (decimalFrom 0 ds) limit (and-true (allDigits ds && plainZero ds) (leb (decimalFrom 0 ds) limit) t .1)))
     (λ _. aFault)
 
 symbol-fits : {size : ℕ} → 1 ≤ size → (w : List ℕ) → WordFits size (symbol w)
 unfolding symbol
 symbol-fits {size} h w =
-    choose
-    (WordFits size)
-    (same (take 5 w) uSymPrefix)
-    (numbered (numeral 255 (drop 5 w)) uSite)
-    (elim (same (take 5 w) iSymPrefix) [ true ↦ numbered (numeral 255 (drop 5 w)) iSite | false ↦ name w ])
+    choose (WordFits size) (same (take 5 w) uSymPrefix)
     (λ _. numbered-fits 255 uSite (λ n k. aUSite h (omega arith)) (drop 5 w))
     (λ _.
-      choose
-      (WordFits size)
-      (same (take 5 w) iSymPrefix)
-      (numbered (numeral 255 (drop 5 w)) iSite)
-      (name w)
+      choose (WordFits size) (same (take 5 w) iSymPrefix)
       (λ _. numbered-fits 255 iSite (λ n k. anISite h (omega arith)) (drop 5 w))
       (λ _. aName h))
 
@@ -159,11 +123,7 @@ identified-fits : (w : List ℕ) → 1 ≤ length w → (l : List (List ℕ × K
 unfolding identified find
 identified-fits w h [] none = symbol-fits h w
 identified-fits w h (e ∷ l) (more long longs) =
-    choose
-    (λ (o : Option Key). WordFits (length w) (identified w o))
-    (same w (e .0))
-    (Option.some (e .1))
-    (find w l)
+    choose (λ (o : Option Key). WordFits (length w) (identified w o)) (same w (e .0))
     (λ t. aKey (omega (arith, ltb-false (length (e .0)) 2 long, ap length (same-equal w (e .0) t))))
     (λ _. identified-fits w h l longs)
 
@@ -171,17 +131,9 @@ pub wordOf-fits : (w : List ℕ) → WordFits (length w) (wordOf w)
 unfolding wordOf identifier
 wordOf-fits [] = aFault
 wordOf-fits (b ∷ w) =
-    choose
-    (WordFits (suc (length w)))
-    (letter b)
-    (identifier (b ∷ w))
-    (numbered (numeral 4294967295 (b ∷ w)) number)
+    choose (WordFits (suc (length w))) (letter b)
     (λ _.
-      choose
-      (WordFits (suc (length w)))
-      (leb (suc (length w)) 16)
-      (identified (b ∷ w) (find (b ∷ w) reservedWords))
-      fault
+      choose (WordFits (suc (length w))) (leb (suc (length w)) 16)
       (λ _. identified-fits (b ∷ w) (omega arith) reservedWords reserved-long)
       (λ _. aFault))
     (λ _. numbered-fits 4294967295 number (λ n k. aNumber (omega arith) (omega arith)) (b ∷ w))
