@@ -2,3 +2,6 @@
 pub mod Lists
 pub mod Places
 pub mod Tokens
+pub mod Sizes
+pub mod Readers
+pub mod Commands
