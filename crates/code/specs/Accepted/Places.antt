@@ -1,6 +1,6 @@
 -- Where names stand in a list of names: a name that is among them has a place below their count, and the distinct names of a list hold
 -- each of its names. Assumes nothing.
-use Prim.Native.Nat.{ℕ, zero, suc, _<_}
+use Prim.Native.Nat.{ℕ, zero, suc, _≤_, _<_}
 use native.Mathlib.Omega.{arith}
 use mathlib.Core.Path.{_≡_, refl, sym, ap, ap₂, _∙_}
 use mathlib.Core.Bool.{Bool, true, false, _||_}
@@ -37,6 +37,9 @@ placeOf-below w (n ∷ ns) e =
     choose (λ (k : ℕ). k < suc (length ns)) (same w n)
     (λ _. omega arith)
     (λ f. let h : placeOf w ns < length ns = placeOf-below w ns (rw f at e) in omega arith)
+
+pub placeOf-within : (w : Name) (ns : List Name) {n : ℕ} → length ns ≤ n → has w ns ≡ true → placeOf w ns < n
+placeOf-within w ns h k = omega (arith, placeOf-below w ns k)
 
 -- the distinct names of a list: those known already stay, and each name is there
 pub withName-keeps : (ns : List Name) (v w : Name) → has w ns ≡ true → has w (withName ns v) ≡ true
