@@ -1,24 +1,24 @@
 -- Every accepted text gives a well-formed program: what the engine may assume of a program, the reader's texts all have. Assumes nothing.
-use Prim.Native.Nat.{ℕ, _+_, _≤_, _<_}
+use Prim.Native.Nat.{ℕ, _≤_}
 use native.Mathlib.Omega.{arith}
 use mathlib.Core.Path.{_≡_, refl, sym, _∙_}
 use mathlib.Core.Bool.{Bool, true, false, not, _||_}
-use mathlib.Core.List.{List, [], _∷_, map}
+use mathlib.Core.List.{List, map}
 use lib.ListN.{length, length-map}
 use lib.Dec.{ltb}
 use borrow.Author.Tests.{ltb-false, not-false}
 use Rattle.gil.specs.Text.{bytes}
 use Rattle.gil.specs.Tree.{Cmd, Proc, Name}
-use Rattle.gil.specs.Reading.{Read, faulty, read, procedures}
-use Rattle.gil.specs.Names.{any, gather, has, placeOf, distinct, cmdVars, cmdProperties, cmdCalls, procVars, properties, procNames, overLimits, repeated, wrongNames, wrongJump, wrongEnd, renameCmd, Procedure, Program, numberProc, numberProgram, Checked, refused, accepted, refusedIf, tested, checkText}
-use Rattle.code.specs.Code.{cmdNodes, allCommands}
-use Rattle.code.specs.WellFormed.{Each, none, more, ProcedureFits, WellFormed}
-use Rattle.code.specs.Accepted.Lists.{or-false, choose, each-to, each-both, each-map, each-gather, none-passes, total, total-equal, length-gather, total-gather, total-map}
-use Rattle.code.specs.Accepted.Places.{placeOf-below, distinct-has}
-use Rattle.code.specs.Accepted.Sizes.{cmdSize, procSize, ProcSmall}
+use Rattle.gil.specs.Reading.{Read, procedures}
+use Rattle.gil.specs.Names.{any, gather, has, placeOf, cmdProperties, cmdCalls, procVars, properties, procNames, overLimits, repeated, wrongNames, wrongJump, wrongEnd, Program, numberProc, numberProgram, Checked, refused, accepted, refusedIf, tested, checkText}
+use Rattle.code.specs.Code.{allCommands}
+use Rattle.code.specs.WellFormed.{Each, WellFormed}
+use Rattle.code.specs.Accepted.Lists.{or-false, choose, each-to, each-both, each-map, each-gather, none-passes, total}
+use Rattle.code.specs.Accepted.Places.{Known, placeOf-below, distinct-has}
+use Rattle.code.specs.Accepted.Sizes.{procSize, ProcSmall}
 use Rattle.code.specs.Accepted.Readers.{Given, isFaulty, isRead}
 use Rattle.code.specs.Accepted.Commands.{ItemsRead, procedures-given}
-use Rattle.code.specs.Accepted.Numbered.{cmdNodes-size, renameCmd-size, Known, numberProc-fits}
+use Rattle.code.specs.Accepted.Numbered.{numbered-commands, numbered-nodes, numberProc-fits}
 pub mod Lists
 pub mod Places
 pub mod Tokens
@@ -34,32 +34,6 @@ each-use :
     → Each (λ p. Each (λ c. Each P (uses c)) (p .body)) ps
 each-use uses ps h = each-to (λ p. each-gather uses (p .body)) (each-gather _ ps h)
 
--- numbering the names of a program keeps how many commands it has, and how many words its expressions take
-module _ (p f : Name → ℕ) where
-  numberProc-commands : (q : Proc Name) → length (numberProc p f q .body) ≡ length (q .body)
-  unfolding numberProc
-  numberProc-commands q = length-map (q .body) _
-
-  numberProc-nodes : (q : Proc Name) → total (λ c. length (cmdNodes c)) (numberProc p f q .body) ≡ procSize q
-  unfolding numberProc
-  numberProc-nodes q =
-      total-map (λ c. length (cmdNodes c)) (renameCmd (λ w. placeOf w (procVars q)) p f) (q .body)
-      ∙ total-equal _ cmdSize (λ c. cmdNodes-size _ ∙ renameCmd-size (λ w. placeOf w (procVars q)) p f c) (q .body)
-
-  numbered-commands : (ps : List (Proc Name)) → length (gather (λ q. q .body) (map (numberProc p f) ps)) ≡ length (gather (λ q. q .body) ps)
-  numbered-commands ps =
-      length-gather (λ (q : Procedure). q .body) (map (numberProc p f) ps)
-      ∙ total-map (λ q. length (q .body)) (numberProc p f) ps
-      ∙ total-equal _ (λ q. length (q .body)) numberProc-commands ps
-      ∙ sym (length-gather (λ (q : Proc Name). q .body) ps)
-
-  numbered-nodes : (ps : List (Proc Name)) → length (gather cmdNodes (gather (λ q. q .body) (map (numberProc p f) ps))) ≡ total procSize ps
-  numbered-nodes ps =
-      length-gather cmdNodes (gather (λ q. q .body) (map (numberProc p f) ps))
-      ∙ total-gather (λ c. length (cmdNodes c)) (λ (q : Procedure). q .body) (map (numberProc p f) ps)
-      ∙ total-map (λ q. total (λ c. length (cmdNodes c)) (q .body)) (numberProc p f) ps
-      ∙ total-equal _ procSize numberProc-nodes ps
-
 -- what is known where refusal 5 is not given
 pub record Limited (ps : List (Proc Name)) : Type 0 where
   pub fewProcedures : length ps ≤ 16
@@ -70,10 +44,12 @@ pub record Limited (ps : List (Proc Name)) : Type 0 where
 pub limits-kept : (ps : List (Proc Name)) → overLimits ps ≡ false → Limited ps
 unfolding overLimits
 limits-kept ps e =
-    let overVariables : Bool = any (λ p. ltb 16 (length (procVars p))) ps in
-    let (e₁, properties) = or-false (ltb 16 (length ps) || ltb 512 (length (gather (λ p. p .body) ps)) || overVariables) _ e in
-    let (e₂, variables) = or-false (ltb 16 (length ps) || ltb 512 (length (gather (λ p. p .body) ps))) _ e₁ in
-    let (procedures, commands) = or-false (ltb 16 (length ps)) _ e₂ in
+    let a : Bool = ltb 16 (length ps) in
+    let b : Bool = ltb 512 (length (gather (λ p. p .body) ps)) in
+    let c : Bool = any (λ p. ltb 16 (length (procVars p))) ps in
+    let (e₁, properties) = or-false (a || b || c) _ e in
+    let (e₂, variables) = or-false (a || b) c e₁ in
+    let (procedures, commands) = or-false a b e₂ in
     record {
       fewProcedures = ltb-false _ _ procedures;
       fewCommands = ltb-false _ _ commands;
@@ -120,8 +96,8 @@ numberProgram-well-formed ps small size limited named =
       fewNodes = rw (numbered-nodes p f ps) size;
       mainThere = omega (arith, placeOf-below (bytes "main") fs (named .main));
       procedures = rw (count ∙ sym names) (each-map (numberProc p f) (each-to
-        (λ q h. numberProc-fits qs fs (limited .fewProperties) q (h .0) (h .1 .0) (h .1 .1 .0) (h .1 .1 .1))
-        (each-both small (each-both (limited .fewVariables) (each-both (properties-known ps) (named .calls))))));
+          (λ q h. numberProc-fits qs fs (limited .fewProperties) q (h .0) (h .1 .0) (h .1 .1 .0) (h .1 .1 .1))
+          (each-both small (each-both (limited .fewVariables) (each-both (properties-known ps) (named .calls))))));
     }
 
 -- an accepted text is not refused
@@ -135,10 +111,16 @@ not-refused true n t e = (cc, cc)
 not-refused false n t e = (refl, e)
 
 tested-well-formed :
-    (s : List ℕ) → length s ≤ 16384 → (p : Program) {r : Read (List (Proc Name))} → Given s (ItemsRead ProcSmall procSize 0) r → tested r ≡ accepted p → WellFormed p
+    (s : List ℕ)
+    → length s ≤ 16384
+    → {r : Read (List (Proc Name))}
+    → Given s (ItemsRead ProcSmall procSize 0) r
+    → (p : Program)
+    → tested r ≡ accepted p
+    → WellFormed p
 unfolding tested
-tested-well-formed s few p isFaulty e = refused-not-accepted e
-tested-well-formed s few p (isRead {a = ps} h q) e =
+tested-well-formed s few isFaulty p e = refused-not-accepted e
+tested-well-formed s few (isRead {a = ps} h q) p e =
     let (limits, e₁) = not-refused (overLimits ps) 5 _ e in
     let (names, e₂) = not-refused (wrongNames ps) 6 _ e₁ in
     let (_, e₃) = not-refused (wrongJump ps) 7 _ e₂ in
@@ -149,9 +131,7 @@ tested-well-formed s few p (isRead {a = ps} h q) e =
 pub accepted-well-formed : (s : List ℕ) (p : Program) → checkText s ≡ accepted p → WellFormed p
 unfolding checkText
 accepted-well-formed s p e =
-    choose
-    (λ (c : Checked). c ≡ accepted p → WellFormed p)
-    (ltb 16384 (length s))
-    (λ _ f. refused-not-accepted f)
-    (λ short f. tested-well-formed s (ltb-false _ _ short) p (procedures-given s) f)
+    choose (λ (c : Checked). c ≡ accepted p → WellFormed p) (ltb 16384 (length s))
+    (λ _. refused-not-accepted)
+    (λ short. tested-well-formed s (ltb-false _ _ short) (procedures-given s) p)
     e

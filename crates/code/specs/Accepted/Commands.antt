@@ -6,12 +6,12 @@ use mathlib.Core.Path.{_≡_, refl}
 use mathlib.Core.Bool.{Bool, true, false}
 use mathlib.Core.List.{List, [], _∷_}
 use lib.ListN.{length}
-use Rattle.gil.specs.Text.{Token, word, property, becomes, mark, ended, Word, wordOf, Key, kIfgoto, kReturn, kFail, kVanish, kTrue, kFalse, kNot, kAnd, kOr, kLookup, kMutate, kDispose}
-use Rattle.gil.specs.Tree.{Expr, var, Cmd, assign, ifgoto, call, lookup, mutate, dispose, uSym, iSym, return, fail, vanish, Proc, Name}
-use Rattle.gil.specs.Reading.{Read, Reader, _>>=_, _>>_, done, nothing, token, ahead, isMark, isEnded, asWord, expr, assignment, callOf, callOrVar, named, lookupOf, mutateOf, disposeOf, valueKey, valueWord, valueFrom, settingOf, jumpOf, endingOf, commandKey, commandWord, command, orMore, oneOrMore, commandsOf, commands, procedure, proceduresOf, procedures}
+use Rattle.gil.specs.Text.{Token, word, property, becomes, mark, ended, Word, Key, kIfgoto, kReturn, kFail, kVanish, kTrue, kFalse, kNot, kAnd, kOr, kLookup, kMutate, kDispose}
+use Rattle.gil.specs.Tree.{Expr, var, Cmd, assign, ifgoto, call, lookup, mutate, dispose, uSym, iSym, return, fail, vanish, Name}
+use Rattle.gil.specs.Reading.{Reader, nothing, token, isMark, isEnded, assignment, callOf, callOrVar, named, lookupOf, mutateOf, disposeOf, valueKey, valueWord, valueFrom, settingOf, jumpOf, endingOf, commandKey, commandWord, command, orMore, oneOrMore, commandsOf, commands, procedure, proceduresOf, procedures}
 use Rattle.code.specs.WellFormed.{Each, none, more}
 use Rattle.code.specs.Accepted.Lists.{total}
-use Rattle.code.specs.Accepted.Tokens.{tokenBytes, WordFits, aName, aNumber, aKey, aUSite, anISite, aFault, wordOf-fits, asWord-fits}
+use Rattle.code.specs.Accepted.Tokens.{WordFits, aName, aNumber, aKey, aUSite, anISite, aFault, wordOf-fits, asWord-fits}
 use Rattle.code.specs.Accepted.Sizes.{exprSize, cmdSize, procSize, ExprSmall, smallVariable, CmdSmall, smallAssign, smallJump, smallCall, smallLookup, smallMutate, smallDispose, smallUSym, smallISym, smallReturn, smallFail, smallVanish, ProcSmall}
 use Rattle.code.specs.Accepted.Readers.{Given, Reads, nothing-reads, done-reads, reads-to, reads-then, reads-on, token-reads, ahead-reads, theMark-reads, theBecomes-reads, theName-reads, theNumber-reads, theProperty-reads, expr-reads}
 
@@ -24,7 +24,9 @@ pub record CmdRead (at : ℕ) (c : Cmd Name) (next : ℕ) : Type 0 where
 module _ (s : List ℕ) (v : Name) (from at : ℕ) (b : from ≤ at) (h : at ≤ length s) where
   assignment-reads : Reads s (CmdRead from) (assignment v) at
   unfolding assignment cmdSize
-  assignment-reads = reads-then (expr-reads s at h) λ e n k p. done-reads (assign v e) k (record { small = smallAssign (p .small); takes = omega arith })
+  assignment-reads =
+      reads-then (expr-reads s at h) λ e n k p.
+      done-reads (assign v e) k (record { small = smallAssign (p .small); takes = omega arith })
 
   callOf-reads : (f : Name) → Reads s (CmdRead from) (callOf v f) at
   unfolding callOf cmdSize

@@ -1,6 +1,6 @@
 -- Laws of lists that the proof that accepted texts are well formed needs: something that holds of each element, tests that no element
 -- passes, and numbers added up over a list. Assumes nothing.
-use Prim.Native.Nat.{ℕ, zero, suc, _+_, _≤_}
+use Prim.Native.Nat.{ℕ, _+_}
 use native.Mathlib.Omega.{arith}
 use mathlib.Core.Path.{_≡_, refl, sym, ap, ap₂, _∙_}
 use mathlib.Core.Bool.{Bool, true, false, _&&_, _||_, or-assoc}
@@ -23,7 +23,11 @@ and-true true b e = (refl, e)
 and-true false b e = (e, cc)
 
 -- what holds of either choice under its test
-pub choose : {A : Type 0} (P : A → Type 0) (b : Bool) {x y : A} → (b ≡ true → P x) → (b ≡ false → P y) → P (elim b [ true ↦ x | false ↦ y ])
+pub choose :
+    {A : Type 0} (P : A → Type 0) (b : Bool) {x y : A}
+    → (b ≡ true → P x)
+    → (b ≡ false → P y)
+    → P (elim b [ true ↦ x | false ↦ y ])
 choose P true f g = f refl
 choose P false f g = g refl
 

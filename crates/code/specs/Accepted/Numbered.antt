@@ -1,17 +1,16 @@
 -- Names replaced by numbers: sizes stay, and where each name has a place among the known ones the numbers are below their counts.
 -- Assumes nothing.
-use Prim.Native.Nat.{ℕ, suc, _+_, _≤_, _<_}
+use Prim.Native.Nat.{ℕ, _+_, _≤_}
 use native.Mathlib.Omega.{arith}
-use mathlib.Core.Path.{_≡_, refl, ap, ap₂, _∙_}
-use mathlib.Core.Bool.{Bool, true, false}
-use mathlib.Core.List.{List, [], _∷_, _++_, map}
+use mathlib.Core.Path.{_≡_, refl, sym, ap₂, _∙_}
+use mathlib.Core.List.{List, _∷_, map}
 use lib.ListN.{length, length-append, length-map}
 use Rattle.gil.specs.Tree.{Expr, num, bool, var, neg, bin, Cmd, assign, ifgoto, call, lookup, mutate, dispose, uSym, iSym, return, fail, vanish, Proc, Name}
-use Rattle.gil.specs.Names.{has, placeOf, distinct, exprVars, cmdVars, cmdProperties, cmdCalls, procVars, renameExpr, renameCmd, Procedure, numberProc, gather}
+use Rattle.gil.specs.Names.{Procedure, placeOf, distinct, exprVars, cmdVars, cmdProperties, cmdCalls, procVars, renameExpr, renameCmd, numberProc, gather}
 use Rattle.code.specs.Code.{exprWords, cmdNodes}
 use Rattle.code.specs.WellFormed.{Each, none, more, ExprFits, aNumber, aTruth, aVariable, aNot, anOperator, CmdFits, anAssign, aJump, aCall, aLookup, aMutate, aDispose, aUSym, anISym, aReturn, aFail, aVanish, ProcedureFits}
-use Rattle.code.specs.Accepted.Lists.{each-to, each-both, each-append, each-map, each-gather}
-use Rattle.code.specs.Accepted.Places.{placeOf-below, placeOf-within, distinct-has}
+use Rattle.code.specs.Accepted.Lists.{each-to, each-both, each-append, each-map, each-gather, total, total-equal, length-gather, total-gather, total-map}
+use Rattle.code.specs.Accepted.Places.{Known, placeOf-below, placeOf-within, distinct-has}
 use Rattle.code.specs.Accepted.Sizes.{exprSize, cmdSize, procSize, ExprSmall, smallNumber, smallTruth, smallVariable, smallNot, smallOperator, CmdSmall, smallAssign, smallJump, smallCall, smallLookup, smallMutate, smallDispose, smallUSym, smallISym, smallReturn, smallFail, smallVanish, ProcSmall}
 
 -- the size of a tree is how many words `Code` writes for it
@@ -61,13 +60,12 @@ module _ (v : Name → ℕ) where
   renameCmd-size p f (fail e) = renameExpr-size e
   renameCmd-size p f vanish = refl
 
--- every name of a list is known
-abbrev pub Known : List Name → List Name → Type 0
-Known ns ws = Each (λ w. has w ns ≡ true) ws
-
 -- a small expression whose variables are known
 pub renameExpr-fits :
-    (vs : List Name) {d : ℕ} {e : Expr Name} → ExprSmall d e → Known vs (exprVars e) → ExprFits (length vs) d (renameExpr (λ w. placeOf w vs) e)
+    (vs : List Name) {d : ℕ} {e : Expr Name}
+    → ExprSmall d e
+    → Known vs (exprVars e)
+    → ExprFits (length vs) d (renameExpr (λ w. placeOf w vs) e)
 unfolding exprVars renameExpr
 renameExpr-fits vs (smallNumber h) k = aNumber h
 renameExpr-fits vs smallTruth k = aTruth
@@ -127,6 +125,34 @@ numberProc-fits qs fs few p h v ps cs = known (distinct-has (p .parameter ∷ ga
           fewVariables = v;
           someCommand = rw length-map (h .some);
           commands = each-map _ (each-to
-            (λ c f. renameCmd-fits vs qs fs few (f .0) (f .1 .0) (f .1 .1 .0) (f .1 .1 .1))
-            (each-both (h .small) (each-both (each-gather cmdVars (p .body) ks) (each-both ps cs))));
+              (λ c f. renameCmd-fits vs qs fs few (f .0) (f .1 .0) (f .1 .1 .0) (f .1 .1 .1))
+              (each-both (h .small) (each-both (each-gather cmdVars (p .body) ks) (each-both ps cs))));
         }
+
+-- numbering the names of a program keeps how many commands it has, and how many words its expressions take
+module _ (p f : Name → ℕ) where
+  numberProc-commands : (q : Proc Name) → length (numberProc p f q .body) ≡ length (q .body)
+  unfolding numberProc
+  numberProc-commands q = length-map (q .body) _
+
+  numberProc-nodes : (q : Proc Name) → total (λ c. length (cmdNodes c)) (numberProc p f q .body) ≡ procSize q
+  unfolding numberProc
+  numberProc-nodes q =
+      total-map (λ c. length (cmdNodes c)) (renameCmd (λ w. placeOf w (procVars q)) p f) (q .body)
+      ∙ total-equal _ cmdSize (λ c. cmdNodes-size _ ∙ renameCmd-size (λ w. placeOf w (procVars q)) p f c) (q .body)
+
+  pub numbered-commands :
+      (ps : List (Proc Name)) → length (gather (λ q. q .body) (map (numberProc p f) ps)) ≡ length (gather (λ q. q .body) ps)
+  numbered-commands ps =
+      length-gather (λ (q : Procedure). q .body) (map (numberProc p f) ps)
+      ∙ total-map (λ q. length (q .body)) (numberProc p f) ps
+      ∙ total-equal _ (λ q. length (q .body)) numberProc-commands ps
+      ∙ sym (length-gather (λ (q : Proc Name). q .body) ps)
+
+  pub numbered-nodes :
+      (ps : List (Proc Name)) → length (gather cmdNodes (gather (λ q. q .body) (map (numberProc p f) ps))) ≡ total procSize ps
+  numbered-nodes ps =
+      length-gather cmdNodes (gather (λ q. q .body) (map (numberProc p f) ps))
+      ∙ total-gather (λ c. length (cmdNodes c)) (λ (q : Procedure). q .body) (map (numberProc p f) ps)
+      ∙ total-map (λ q. total (λ c. length (cmdNodes c)) (q .body)) (numberProc p f) ps
+      ∙ total-equal _ procSize numberProc-nodes ps

@@ -1,10 +1,10 @@
 -- Where names stand in a list of names: a name that is among them has a place below their count, and the distinct names of a list hold
 -- each of its names. Assumes nothing.
-use Prim.Native.Nat.{ℕ, zero, suc, _≤_, _<_}
+use Prim.Native.Nat.{ℕ, suc, _≤_, _<_}
 use native.Mathlib.Omega.{arith}
-use mathlib.Core.Path.{_≡_, refl, sym, ap, ap₂, _∙_}
+use mathlib.Core.Path.{_≡_, refl, ap, ap₂, _∙_}
 use mathlib.Core.Bool.{Bool, true, false, _||_}
-use mathlib.Core.List.{List, [], _∷_, _++_}
+use mathlib.Core.List.{List, [], _∷_}
 use lib.ListN.{length}
 use lib.Dec.{eqb}
 use borrow.Author.Tests.{eqb-true, eq-eqb}
@@ -28,6 +28,10 @@ same-equal (a ∷ v) [] e = cc
 same-equal (a ∷ v) (b ∷ w) e =
     let (x, y) = and-true (eqb a b) (same v w) e in
     ap₂ _∷_ (eqb-true a b x) (same-equal v w y)
+
+-- every name of a list is among the known ones
+abbrev pub Known : List Name → List Name → Type 0
+Known ns ws = Each (λ w. has w ns ≡ true) ws
 
 -- a name that is there has a place
 pub placeOf-below : (w : Name) (ns : List Name) → has w ns ≡ true → placeOf w ns < length ns
@@ -61,11 +65,11 @@ unfolding withNames
 withNames-keeps ns [] w e = e
 withNames-keeps ns (v ∷ ws) w e = withNames-keeps (withName ns v) ws w (withName-keeps ns v w e)
 
-pub withNames-has : (ns ws : List Name) → Each (λ w. has w (withNames ns ws) ≡ true) ws
+pub withNames-has : (ns ws : List Name) → Known (withNames ns ws) ws
 unfolding withNames
 withNames-has ns [] = none
 withNames-has ns (w ∷ ws) = more (withNames-keeps (withName ns w) ws w (withName-has ns w)) (withNames-has (withName ns w) ws)
 
-pub distinct-has : (ws : List Name) → Each (λ w. has w (distinct ws) ≡ true) ws
+pub distinct-has : (ws : List Name) → Known (distinct ws) ws
 unfolding distinct
 distinct-has ws = withNames-has [] ws

@@ -4,16 +4,15 @@ use Prim.Native.Nat.{ℕ, zero, suc, _+_, _≤_, _<_}
 use native.Mathlib.Omega.{arith}
 use mathlib.Core.Path.{_≡_, refl}
 use mathlib.Core.Bool.{Bool, true, false}
-use mathlib.Core.List.{List, [], _∷_}
+use mathlib.Core.List.{List}
 use lib.ListN.{length}
 use lib.Dec.{eqb}
-use Rattle.gil.specs.Text.{Token, word, property, becomes, mark, ended, lexeme, Word, wordOf, Key, kIfgoto, kReturn, kFail, kVanish, kTrue, kFalse, kNot, kAnd, kOr, kLookup, kMutate, kDispose}
-use Rattle.gil.specs.Tree.{Op, plus, minus, equal, less, and, or, Expr, num, bool, var, neg, bin, Cmd, return, fail, Proc, Name}
-use Rattle.gil.specs.Reading.{Read, faulty, read, Reader, after, _>>=_, _>>_, done, nothing, token, ahead, isMark, isEnded, isBecomes, so, theMark, theBecomes, nameOf, asWord, theName, numberOf, theNumber, propertyOf, theProperty, opMark, opKey, opWord, opOf, theOp, negation, bracketed, exprKey, exprWord, exprFrom, exprDeep, expr, assignment, callOf, callOrVar, named, lookupOf, mutateOf, disposeOf, valueKey, valueWord, valueFrom, settingOf, jumpOf, endingOf, commandKey, commandWord, command, orMore, oneOrMore, commandsOf, commands, procedure, proceduresOf, procedures}
-use Rattle.code.specs.WellFormed.{Each, none, more}
-use Rattle.code.specs.Accepted.Lists.{choose, total}
+use Rattle.gil.specs.Text.{Token, word, property, becomes, mark, ended, Word, Key, kIfgoto, kReturn, kFail, kVanish, kTrue, kFalse, kNot, kAnd, kOr, kLookup, kMutate, kDispose}
+use Rattle.gil.specs.Tree.{Op, plus, minus, equal, less, and, or, Expr, num, bool, var, neg, bin, Name}
+use Rattle.gil.specs.Reading.{Read, faulty, read, Reader, after, _>>=_, _>>_, done, nothing, token, ahead, isMark, isBecomes, so, theMark, theBecomes, nameOf, theName, numberOf, theNumber, propertyOf, theProperty, opMark, opKey, opWord, opOf, theOp, negation, bracketed, exprKey, exprWord, exprFrom, exprDeep, expr}
+use Rattle.code.specs.Accepted.Lists.{choose}
 use Rattle.code.specs.Accepted.Tokens.{tokenBytes, lexeme-ends, WordFits, aName, aNumber, aKey, aUSite, anISite, aFault, wordOf-fits, asWord-fits}
-use Rattle.code.specs.Accepted.Sizes.{exprSize, cmdSize, procSize, ExprSmall, smallNumber, smallTruth, smallVariable, smallNot, smallOperator, CmdSmall, smallAssign, smallJump, smallCall, smallLookup, smallMutate, smallDispose, smallUSym, smallISym, smallReturn, smallFail, smallVanish, ProcSmall}
+use Rattle.code.specs.Accepted.Sizes.{exprSize, ExprSmall, smallNumber, smallTruth, smallVariable, smallNot, smallOperator}
 
 -- a reader was faulty, or it ended in the text and `P` holds of what it read and where it ended
 pub data Given {A : Type 0} (s : List ℕ) (P : A → ℕ → Type 0) : Read A → Type 0 where
@@ -33,13 +32,13 @@ unfolding done
 done-reads a h p = record { given = isRead h p }
 
 -- less is known of what was read
-given-to : {A : Type 0} {s : List ℕ} {P Q : A → ℕ → Type 0} {r : Read A} → ((a : A) (n : ℕ) → P a n → Q a n) → Given s P r → Given s Q r
-given-to f isFaulty = isFaulty
-given-to f (isRead h p) = isRead h (f _ _ p)
+module _ {A : Type 0} {s : List ℕ} {P Q : A → ℕ → Type 0} where
+  given-to : {r : Read A} → ((a : A) (n : ℕ) → P a n → Q a n) → Given s P r → Given s Q r
+  given-to f isFaulty = isFaulty
+  given-to f (isRead h p) = isRead h (f _ _ p)
 
-pub reads-to :
-    {A : Type 0} {s : List ℕ} {P Q : A → ℕ → Type 0} {p : Reader A} {at : ℕ} → ((a : A) (n : ℕ) → P a n → Q a n) → Reads s P p at → Reads s Q p at
-reads-to f h = record { given = given-to f (h .given) }
+  pub reads-to : {p : Reader A} {at : ℕ} → ((a : A) (n : ℕ) → P a n → Q a n) → Reads s P p at → Reads s Q p at
+  reads-to f h = record { given = given-to f (h .given) }
 
 -- readers in a row
 module _ {A B : Type 0} {s : List ℕ} {P : A → ℕ → Type 0} {Q : B → ℕ → Type 0} where
@@ -201,52 +200,56 @@ pub record ExprRead (d at : ℕ) (e : Expr Name) (next : ℕ) : Type 0 where
   pub takes : exprSize e + at ≤ suc next
 
 -- an expression past its first token, which began at `at`; `p` reads an operand
-module _ (s : List ℕ) (d : ℕ) (p : Reader (Expr Name)) (operand : (at : ℕ) → at ≤ length s → Reads s (ExprRead d at) p at) (at n : ℕ) (h : n ≤ length s) where
-  negation-reads : 2 + at ≤ n → Reads s (ExprRead (suc d) at) (negation p) n
-  unfolding negation exprSize
-  negation-reads b = reads-then (operand n h) λ e m k q. done-reads (neg e) k (record { small = smallNot (q .small); takes = omega arith })
+module _
+    (s : List ℕ) (d : ℕ) (p : Reader (Expr Name))
+    (operand : (at : ℕ) → at ≤ length s → Reads s (ExprRead d at) p at)
+    (at n : ℕ) (h : n ≤ length s)
+  where
+    negation-reads : 2 + at ≤ n → Reads s (ExprRead (suc d) at) (negation p) n
+    unfolding negation exprSize
+    negation-reads b = reads-then (operand n h) λ e m k q. done-reads (neg e) k (record { small = smallNot (q .small); takes = omega arith })
 
-  bracketed-reads : 1 + at ≤ n → Reads s (ExprRead (suc d) at) (bracketed p) n
-  unfolding bracketed exprSize
-  bracketed-reads k =
-      reads-then (operand n h) λ a n₁ h₁ p₁.
-      reads-then (theOp-reads s n₁ h₁) λ o n₂ h₂ p₂.
-      reads-then (operand n₂ h₂) λ b n₃ h₃ p₃.
-      reads-on (theMark-reads s n₃ h₃ 41) λ _ n₄ h₄ p₄.
-      done-reads (bin o a b) h₄ (record { small = smallOperator (p₁ .small) (p₃ .small); takes = omega arith })
+    bracketed-reads : 1 + at ≤ n → Reads s (ExprRead (suc d) at) (bracketed p) n
+    unfolding bracketed exprSize
+    bracketed-reads k =
+        reads-then (operand n h) λ a n₁ h₁ p₁.
+        reads-then (theOp-reads s n₁ h₁) λ o n₂ h₂ p₂.
+        reads-then (operand n₂ h₂) λ b n₃ h₃ p₃.
+        reads-on (theMark-reads s n₃ h₃ 41) λ _ n₄ h₄ p₄.
+        done-reads (bin o a b) h₄ (record { small = smallOperator (p₁ .small) (p₃ .small); takes = omega arith })
 
-  exprKey-reads : 2 + at ≤ n → (k : Key) → Reads s (ExprRead (suc d) at) (exprKey p k) n
-  unfolding exprKey exprSize
-  exprKey-reads b kTrue = done-reads (bool true) h (record { small = smallTruth; takes = omega arith })
-  exprKey-reads b kFalse = done-reads (bool false) h (record { small = smallTruth; takes = omega arith })
-  exprKey-reads b kNot = negation-reads b
-  exprKey-reads b kIfgoto = nothing-reads
-  exprKey-reads b kReturn = nothing-reads
-  exprKey-reads b kFail = nothing-reads
-  exprKey-reads b kVanish = nothing-reads
-  exprKey-reads b kAnd = nothing-reads
-  exprKey-reads b kOr = nothing-reads
-  exprKey-reads b kLookup = nothing-reads
-  exprKey-reads b kMutate = nothing-reads
-  exprKey-reads b kDispose = nothing-reads
+    exprKey-reads : 2 + at ≤ n → (k : Key) → Reads s (ExprRead (suc d) at) (exprKey p k) n
+    unfolding exprKey exprSize
+    exprKey-reads b kTrue = done-reads (bool true) h (record { small = smallTruth; takes = omega arith })
+    exprKey-reads b kFalse = done-reads (bool false) h (record { small = smallTruth; takes = omega arith })
+    exprKey-reads b kNot = negation-reads b
+    exprKey-reads b kIfgoto = nothing-reads
+    exprKey-reads b kReturn = nothing-reads
+    exprKey-reads b kFail = nothing-reads
+    exprKey-reads b kVanish = nothing-reads
+    exprKey-reads b kAnd = nothing-reads
+    exprKey-reads b kOr = nothing-reads
+    exprKey-reads b kLookup = nothing-reads
+    exprKey-reads b kMutate = nothing-reads
+    exprKey-reads b kDispose = nothing-reads
 
-  exprWord-reads : {size : ℕ} {w : Word} → WordFits size w → at + size ≤ n → Reads s (ExprRead (suc d) at) (exprWord p w) n
-  unfolding exprWord exprSize
-  exprWord-reads (aName {w} b) k = done-reads (var w) h (record { small = smallVariable; takes = omega arith })
-  exprWord-reads (aNumber {n = m} b c) k = done-reads (num m) h (record { small = smallNumber c; takes = omega arith })
-  exprWord-reads (aKey {k = w} b) k = exprKey-reads (omega arith) w
-  exprWord-reads (aUSite b c) k = nothing-reads
-  exprWord-reads (anISite b c) k = nothing-reads
-  exprWord-reads aFault k = nothing-reads
+    exprWord-reads : {size : ℕ} {w : Word} → WordFits size w → at + size ≤ n → Reads s (ExprRead (suc d) at) (exprWord p w) n
+    unfolding exprWord exprSize
+    exprWord-reads (aName {w} b) k = done-reads (var w) h (record { small = smallVariable; takes = omega arith })
+    exprWord-reads (aNumber {n = m} b c) k = done-reads (num m) h (record { small = smallNumber c; takes = omega arith })
+    exprWord-reads (aKey {k = w} b) k = exprKey-reads (omega arith) w
+    exprWord-reads (aUSite b c) k = nothing-reads
+    exprWord-reads (anISite b c) k = nothing-reads
+    exprWord-reads aFault k = nothing-reads
 
-  exprFrom-reads : (t : Token) → at + tokenBytes t ≤ n → Reads s (ExprRead (suc d) at) (exprFrom p t) n
-  unfolding exprFrom tokenBytes
-  exprFrom-reads (word w) k = exprWord-reads (wordOf-fits w) k
-  exprFrom-reads (property q) k = nothing-reads
-  exprFrom-reads becomes k = nothing-reads
-  exprFrom-reads (mark b) k =
-      choose (λ (r : Reader (Expr Name)). Reads s (ExprRead (suc d) at) r n) (eqb b 40) (λ _. bracketed-reads (omega arith)) (λ _. nothing-reads)
-  exprFrom-reads ended k = nothing-reads
+    exprFrom-reads : (t : Token) → at + tokenBytes t ≤ n → Reads s (ExprRead (suc d) at) (exprFrom p t) n
+    unfolding exprFrom tokenBytes
+    exprFrom-reads (word w) k = exprWord-reads (wordOf-fits w) k
+    exprFrom-reads (property q) k = nothing-reads
+    exprFrom-reads becomes k = nothing-reads
+    exprFrom-reads (mark b) k =
+        choose (λ (r : Reader (Expr Name)). Reads s (ExprRead (suc d) at) r n) (eqb b 40) (λ _. bracketed-reads (omega arith)) (λ _. nothing-reads)
+    exprFrom-reads ended k = nothing-reads
 
 pub exprDeep-reads : (s : List ℕ) (d at : ℕ) → at ≤ length s → Reads s (ExprRead d at) (exprDeep d) at
 unfolding exprDeep nothing

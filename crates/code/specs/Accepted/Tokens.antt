@@ -1,11 +1,11 @@
 -- How many bytes a token takes, and what its run can be: a number below 2³², a site below 256, a reserved word of two characters or more.
 -- Assumes nothing.
-use Prim.Native.Nat.{ℕ, zero, suc, _+_, _-_, _≤_, _<_}
+use Prim.Native.Nat.{ℕ, suc, _+_, _≤_, _<_}
 use native.Mathlib.Omega.{arith}
-use mathlib.Core.Path.{_≡_, refl, sym, ap, _∙_}
-use mathlib.Core.Bool.{Bool, true, false, _&&_}
+use mathlib.Core.Path.{_≡_, refl, ap}
+use mathlib.Core.Bool.{Bool, false, _&&_}
 use mathlib.Core.List.{List, [], _∷_}
-use mathlib.Core.Option.{Option} 
+use mathlib.Core.Option.{Option}
 use lib.ListN.{length, take, drop, length-take, length-drop}
 use lib.Dec.{leb, ltb, eqb}
 use borrow.Author.Tests.{ltb-false, leb-true}
@@ -42,7 +42,7 @@ part-length : (s : List ℕ) (i n : ℕ) → length (part s i n) ≤ n
 unfolding part
 part-length s i n = simp length-take (omega arith)
 
--- in the four below, what is left of the text stands in its place: `at ≤ i`, and the rest ends where the text does
+-- a token that begins at `i`, past white space from `at`; what is left of the text from there ends in the text
 module _ (s : List ℕ) (at i : ℕ) (from : at ≤ i) where
   quoted-ends : (n : ℕ) (after : List ℕ) → suc i + (n + length after) ≤ length s → Ends s at (quoted s i n after)
   unfolding quoted tokenBytes
@@ -66,10 +66,10 @@ module _ (s : List ℕ) (at i : ℕ) (from : at ≤ i) where
       let n : ℕ = span inRun after in
       choose (Ends s at) (eqb b 34)
       (λ _. quoted-ends n (drop n after) (omega (arith, length-drop n after, span-length inRun after)))
-      (λ _.
-        choose (Ends s at) (eqb b 58)
-        (λ _. coloned-ends after h)
-        (λ _. record { takes = omega arith; inside = omega arith }))
+      λ _.
+      choose (Ends s at) (eqb b 58)
+      (λ _. coloned-ends after h)
+      λ _. record { takes = omega arith; inside = omega arith }
 
   tokenFrom-ends : (rest : List ℕ) → i + length rest ≤ length s → Ends s at (tokenFrom s i rest)
   unfolding tokenFrom tokenBytes
@@ -97,11 +97,16 @@ pub data WordFits (size : ℕ) : Word → Type 0 where
   aFault : WordFits size fault
 
 -- a numeral is within its limit
-numbered-fits : {size : ℕ} (limit : ℕ) (f : ℕ → Word) → ((n : ℕ) → n ≤ limit → WordFits size (f n)) → (ds : List ℕ) → WordFits size (numbered (numeral limit ds) f)
+numbered-fits :
+    {size : ℕ} (limit : ℕ) (f : ℕ → Word)
+    → ((n : ℕ) → n ≤ limit → WordFits size (f n))
+    → (ds : List ℕ)
+    → WordFits size (numbered (numeral limit ds) f)
 unfolding numbered numeral
 numbered-fits {size} limit f h ds =
-    choose (λ (o : Option ℕ). WordFits size (numbered o f)) (allDigits ds && plainZero ds && leb (decimalFrom 0 ds) limit)
-    (λ t. h (decimalFrom 0 ds) (leb-true (decimalFrom 0 ds) limit (and-true (allDigits ds && plainZero ds) (leb (decimalFrom 0 ds) limit) t .1)))
+    let n : ℕ = decimalFrom 0 ds in
+    choose (λ (o : Option ℕ). WordFits size (numbered o f)) (allDigits ds && plainZero ds && leb n limit)
+    (λ t. h n (leb-true n limit (and-true (allDigits ds && plainZero ds) (leb n limit) t .1)))
     (λ _. aFault)
 
 symbol-fits : {size : ℕ} → 1 ≤ size → (w : List ℕ) → WordFits size (symbol w)
@@ -109,17 +114,21 @@ unfolding symbol
 symbol-fits {size} h w =
     choose (WordFits size) (same (take 5 w) uSymPrefix)
     (λ _. numbered-fits 255 uSite (λ n k. aUSite h (omega arith)) (drop 5 w))
-    (λ _.
-      choose (WordFits size) (same (take 5 w) iSymPrefix)
-      (λ _. numbered-fits 255 iSite (λ n k. anISite h (omega arith)) (drop 5 w))
-      (λ _. aName h))
+    λ _.
+    choose (WordFits size) (same (take 5 w) iSymPrefix)
+    (λ _. numbered-fits 255 iSite (λ n k. anISite h (omega arith)) (drop 5 w))
+    λ _. aName h
 
 -- a run of one character is never a reserved word
-reserved-long : Each (λ e. ltb (length (e .0)) 2 ≡ false) reservedWords
+abbrev Long : List ℕ × Key → Type 0
+Long e = ltb (length (e .0)) 2 ≡ false
+
+reserved-long : Each Long reservedWords
 unfolding reservedWords bytes any
 reserved-long = none-passes (λ e. ltb (length (e .0)) 2) reservedWords refl
 
-identified-fits : (w : List ℕ) → 1 ≤ length w → (l : List (List ℕ × Key)) → Each (λ e. ltb (length (e .0)) 2 ≡ false) l → WordFits (length w) (identified w (find w l))
+identified-fits :
+    (w : List ℕ) → 1 ≤ length w → (l : List (List ℕ × Key)) → Each Long l → WordFits (length w) (identified w (find w l))
 unfolding identified find
 identified-fits w h [] none = symbol-fits h w
 identified-fits w h (e ∷ l) (more long longs) =
@@ -127,15 +136,19 @@ identified-fits w h (e ∷ l) (more long longs) =
     (λ t. aKey (omega (arith, ltb-false (length (e .0)) 2 long, ap length (same-equal w (e .0) t))))
     (λ _. identified-fits w h l longs)
 
+identifier-fits : (w : List ℕ) → 1 ≤ length w → WordFits (length w) (identifier w)
+unfolding identifier
+identifier-fits w h =
+    choose (WordFits (length w)) (leb (length w) 16)
+    (λ _. identified-fits w h reservedWords reserved-long)
+    (λ _. aFault)
+
 pub wordOf-fits : (w : List ℕ) → WordFits (length w) (wordOf w)
-unfolding wordOf identifier
+unfolding wordOf
 wordOf-fits [] = aFault
 wordOf-fits (b ∷ w) =
     choose (WordFits (suc (length w))) (letter b)
-    (λ _.
-      choose (WordFits (suc (length w))) (leb (suc (length w)) 16)
-      (λ _. identified-fits (b ∷ w) (omega arith) reservedWords reserved-long)
-      (λ _. aFault))
+    (λ _. identifier-fits (b ∷ w) (omega arith))
     (λ _. numbered-fits 4294967295 number (λ n k. aNumber (omega arith) (omega arith)) (b ∷ w))
 
 pub asWord-fits : (t : Token) → WordFits (tokenBytes t) (asWord t)
