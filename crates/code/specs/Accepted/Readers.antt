@@ -1,5 +1,5 @@
--- What each reader gives from a place in the text, if it is not faulty: the place after what was read is still in the text, past the bytes
--- that were read, and what was read is small. A whole text's expressions take no more words than the text has bytes. Assumes nothing.
+-- What the readers of tokens and expressions give from a place in the text, if they are not faulty: the place after what was read is still
+-- in the text, past the bytes that were read; an expression is as deep as allowed, and its words are few. Assumes nothing.
 use Prim.Native.Nat.{ℕ, zero, suc, _+_, _≤_, _<_}
 use native.Mathlib.Omega.{arith}
 use mathlib.Core.Path.{_≡_, refl}
