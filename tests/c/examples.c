@@ -309,6 +309,30 @@ static void every_kind_of_term(void)
              1024, 16, ROWS(rows), TERMS(terms));
 }
 
+/* Whatever could be known of an operator on a term, it makes one, each time; but `=` on two sorts is false and makes none. */
+static void nothing_is_simplified_or_shared(void)
+{
+    static const struct term terms[] = {
+        INPUT_TERM(0),
+        {EQUAL, NUMBER_TERM(0), NUMBER_TERM(0)},
+        {AND, BOOLEAN(0), BOOLEAN_TERM(1)},
+        {OR, BOOLEAN_TERM(1), BOOLEAN(1)},
+        {MINUS, NUMBER_TERM(0), NUMBER_TERM(0)},
+        {PLUS, NUMBER(0), NUMBER_TERM(0)},
+        {EQUAL, NUMBER_TERM(0), NUMBER_TERM(0)},
+        {NOT, BOOLEAN_TERM(1), NOTHING},
+        {NOT, BOOLEAN_TERM(7), NOTHING},
+    };
+    static const struct row rows[] = {
+        {.outcome = RETURNED, .value = BOOLEAN_TERM(2), .steps = 11, .command = 10, .inputs = 1,
+         VARIABLES(11, NUMBER(0), NUMBER_TERM(0), BOOLEAN_TERM(1), BOOLEAN_TERM(2), BOOLEAN_TERM(3), NUMBER_TERM(4),
+                   NUMBER_TERM(5), BOOLEAN_TERM(6), BOOLEAN_TERM(8), BOOLEAN(0), BOOLEAN(0))}};
+
+    explores(body("a := iSym_0; b := (a = a); c := (false and b); d := (b or true); e := (a - a); f := (0 + a); "
+                  "g := (a = a); h := not not b; i := (b = 1); j := (e = false); return c;"),
+             1024, 16, ROWS(rows), TERMS(terms));
+}
+
 /* "b" is property 0 as it stands first; $0 comes before $1. Disposing $0 leaves the one cell of $1, in the first place. */
 static void cells_in_order(void)
 {
@@ -346,6 +370,26 @@ static void called_procedures(void)
              NO_TERMS);
 }
 
+/* In the second call `z` is not bound, though it was in the first one, whose frame had the same place. */
+static void a_fresh_frame(void)
+{
+    static const struct row rows[] = {{.outcome = ERROR, .value = CODE(1), .steps = 7, .procedure = 1, .command = 3,
+                                       VARIABLES(2, NUMBER(1), NOTHING)}};
+
+    explores(text_of("main(x){ v := f(0); v := f(1); vanish; } f(y){ ifgoto (y = 1) 3; z := 7; return z; return z; }"), 1024,
+             16, ROWS(rows), NO_TERMS);
+}
+
+/* By first place in the text, though it is in a command that is not reached: a target before its operands. */
+static void variables_in_order(void)
+{
+    static const struct row rows[] = {
+        {.outcome = VANISHED, .steps = 5, .command = 5, VARIABLES(4, NUMBER(0), NUMBER(4), NUMBER(5), NUMBER(3))}};
+
+    explores(body("ifgoto true 2; a := mutate([d, \"p\", c]); c := 3; d := 5; a := 4; vanish;"), 1024, 16, ROWS(rows),
+             NO_TERMS);
+}
+
 /* Seven calls open the frames 2 to 8; the eighth errs, and is a step. */
 static void a_ninth_frame(void)
 {
@@ -363,6 +407,30 @@ static void a_seventeenth_location(void)
     explores(body("o := uSym_0; ifgoto true 0; vanish;"), 1024, 16, ROWS(rows), NO_TERMS);
 }
 
+/* A location that was disposed is not given again. */
+static void a_location_after_dispose(void)
+{
+    static const struct row rows[] = {{.outcome = RETURNED, .value = LOCATION(1), .steps = 4, .command = 3,
+                                       VARIABLES(4, NUMBER(0), LOCATION(0), BOOLEAN(1), LOCATION(1))}};
+
+    explores(body("o := uSym_0; a := dispose(o); p := uSym_0; return p;"), 1024, 16, ROWS(rows), NO_TERMS);
+}
+
+/* Sixteen rounds of five commands fill all 32 cells; one that is there may still be written. */
+static void a_full_memory_written_again(void)
+{
+    struct row rows[] = {{.outcome = VANISHED, .steps = 83, .command = 7,
+                          VARIABLES(4, NUMBER(0), NUMBER(0), LOCATION(15), BOOLEAN(1)), .cell_count = 32}};
+
+    for (uint32_t k = 0; k < 32; k++) {
+        rows[0].cells[k] = (struct cell){k / 2, k % 2, NUMBER(16 - k / 2)};
+    }
+    rows[0].cells[31].value.word = 7;
+    explores(body("n := 16; o := uSym_0; a := mutate([o, \"p\", n]); a := mutate([o, \"q\", n]); n := (n - 1); "
+                  "ifgoto (0 < n) 1; a := mutate([o, \"q\", 7]); vanish;"),
+             1024, 16, ROWS(rows), NO_TERMS);
+}
+
 /* Ten rounds of five commands fill 30 cells; $10 gets two, and its third is the 33rd, at step 54. */
 static void a_thirty_third_cell(void)
 {
@@ -377,13 +445,81 @@ static void a_thirty_third_cell(void)
              1024, 16, ROWS(rows), NO_TERMS);
 }
 
-/* `and` does not skip its second operand. */
-static void and_reads_both(void)
+/* Both operands in full, the left one first, then their sorts, at each operator from the inside out; at a command each
+   operand in full and then its own sorts. `b` is never bound. */
+static void which_error_comes_first(void)
 {
-    static const struct row rows[] = {
-        {.outcome = ERROR, .value = CODE(1), .steps = 1, VARIABLES(3, NUMBER(0), NOTHING, NOTHING)}};
+    static const struct {
+        const char *command;
+        uint32_t error;
+    } commands[] = {
+        {"a := (false and b)", 1},
+        {"a := (true or b)", 1},
+        {"a := (true + b)", 1},
+        {"a := (b + true)", 1},
+        {"a := ((1 + true) + b)", 2},
+        {"a := (b + (1 + true))", 1},
+        {"a := not 1", 2},
+        {"a := (true < false)", 2},
+        {"a := (1 and true)", 2},
+        {"a := (false and 1)", 2},
+        {"a := lookup([1, \"p\"])", 2},
+        {"a := lookup([b, \"p\"])", 1},
+        {"a := mutate([1, \"p\", b])", 1},
+        {"a := mutate([(1 + true), \"p\", b])", 2},
+        {"a := mutate([1, \"p\", 1])", 2},
+        {"a := dispose(true)", 2},
+        {"a := main(b)", 1},
+        {"ifgoto 1 0", 2},
+        {"ifgoto b 0", 1},
+        {"return b", 1},
+        {"fail (1 + true)", 2},
+    };
 
-    explores(body("a := (false and b); vanish;"), 1024, 16, ROWS(rows), NO_TERMS);
+    for (size_t k = 0; k < sizeof commands / sizeof *commands; k++) {
+        struct room answer = room_of(CHOMPHUREK_ANSWER_BYTES);
+        struct text text = {.length = 0};
+
+        append(&text, "%s; vanish;", commands[k].command);
+        expect_number(commands[k].command, plain_run(body(text.at), INPUTS(0), 1024, answer), 0);
+        expect_number(commands[k].command, chomphurek_word(answer.at, 0), ERROR);
+        expect_number(commands[k].command, chomphurek_word(answer.at, 2), commands[k].error);
+        expect_number(commands[k].command, chomphurek_word(answer.at, 3), 1);
+    }
+}
+
+/* A cut run stands at the next command: the callee's first after a call, the one after the call after a return. */
+static void where_a_cut_run_stands(void)
+{
+    struct bytes text = text_of("main(x){ v := f(1); vanish; } f(y){ return y; }");
+
+    runs(text, INPUTS(0), 0, (struct row){.outcome = CUT, .value = CODE(FOR_STEPS), .steps = 0, .procedure = 0,
+                                          .command = 0, VARIABLES(2, NUMBER(0), NOTHING)});
+    runs(text, INPUTS(0), 1, (struct row){.outcome = CUT, .value = CODE(FOR_STEPS), .steps = 1, .procedure = 1,
+                                          .command = 0, VARIABLES(1, NUMBER(1))});
+    runs(text, INPUTS(0), 2, (struct row){.outcome = CUT, .value = CODE(FOR_STEPS), .steps = 2, .procedure = 0,
+                                          .command = 1, VARIABLES(2, NUMBER(0), NUMBER(1))});
+    runs(text, INPUTS(0), 3, (struct row){.outcome = VANISHED, .steps = 3, .procedure = 0, .command = 1,
+                                          VARIABLES(2, NUMBER(0), NUMBER(1))});
+}
+
+/* Without branches: a jump on a boolean term is cut, and is no step though its term is made; one on a number term is
+   error 2. Without a step left nothing is evaluated. */
+static void jumps_without_branches(void)
+{
+    static const struct term terms[] = {INPUT_TERM(0), {LESS, NUMBER_TERM(0), NUMBER(1)}};
+    static const struct terms only_the_input = {terms, 1};
+    static const struct row for_branches[] = {{.outcome = CUT, .value = CODE(FOR_BRANCHES), .steps = 1, .command = 1,
+                                               .inputs = 1, VARIABLES(2, NUMBER(0), NUMBER_TERM(0))}};
+    static const struct row for_steps[] = {{.outcome = CUT, .value = CODE(FOR_STEPS), .steps = 1, .command = 1,
+                                            .inputs = 1, VARIABLES(2, NUMBER(0), NUMBER_TERM(0))}};
+    static const struct row sort[] = {{.outcome = ERROR, .value = CODE(2), .steps = 2, .command = 1, .inputs = 1,
+                                       VARIABLES(2, NUMBER(0), NUMBER_TERM(0))}};
+    struct bytes jump = body("a := iSym_0; ifgoto (a < 1) 0; vanish;");
+
+    explores(jump, 1024, 0, ROWS(for_branches), TERMS(terms));
+    explores(jump, 1, 0, ROWS(for_steps), only_the_input);
+    explores(body("a := iSym_0; ifgoto a 0; vanish;"), 1024, 0, ROWS(sort), only_the_input);
 }
 
 const struct test examples_tests[] = {
@@ -402,11 +538,18 @@ const struct test examples_tests[] = {
     {"example 11", example_11},
     {"a full pool", a_full_pool},
     {"every kind of term", every_kind_of_term},
+    {"nothing is simplified or shared", nothing_is_simplified_or_shared},
     {"cells in order", cells_in_order},
     {"called procedures", called_procedures},
+    {"a fresh frame", a_fresh_frame},
+    {"variables in order", variables_in_order},
     {"a ninth frame", a_ninth_frame},
     {"a seventeenth location", a_seventeenth_location},
+    {"a location after dispose", a_location_after_dispose},
+    {"a full memory written again", a_full_memory_written_again},
     {"a thirty-third cell", a_thirty_third_cell},
-    {"and reads both operands", and_reads_both},
+    {"which error comes first", which_error_comes_first},
+    {"where a cut run stands", where_a_cut_run_stands},
+    {"jumps without branches", jumps_without_branches},
     {NULL, NULL},
 };

@@ -400,6 +400,47 @@ static void too_many_terms(void)
     expect_number("explore with a step less", explore(text, 1023, 16, room_of(TABLE), room_of(POOL)), 0);
 }
 
+/* A sum of `leaves` b's, a power of two: one term less than that. */
+static void append_sum(struct text *text, int leaves)
+{
+    if (leaves == 1) {
+        append(text, "b");
+        return;
+    }
+    append(text, "(");
+    append_sum(text, leaves / 2);
+    append(text, "+");
+    append_sum(text, leaves / 2);
+    append(text, ")");
+}
+
+/* The true side of the first fork finishes 64 rows. Its false side, which waits until then, makes terms up to the 2,048th,
+   2 + 126 + 15 * (127 + 1), and comes to `last`. */
+static struct bytes full_rows_and_terms(const char *last)
+{
+    struct text text = {.length = 0};
+
+    append(&text, "main(x){ b := iSym_0; ifgoto (b < 5) 8; c := 15; a := ");
+    append_sum(&text, 128);
+    append(&text, "; a := (b + b); c := (c - 1); ifgoto (0 < c) 3; %s; ", last);
+    for (int k = 0; k < 6; k++) {
+        append(&text, "a := iSym_0; ifgoto (a < 5) %d; ", 2 * k + 10);
+    }
+    append(&text, "return 0; }");
+    return bytes_of_text(&text);
+}
+
+/* 64 rows are not yet too many while a branch waits; a command makes its terms before it finishes a row, also one that
+   errs after it. */
+static void rows_or_terms_whichever_comes_first(void)
+{
+    zeroed(9, full_rows_and_terms("return b"), 1024, 0);
+    zeroed(10, full_rows_and_terms("return (b + 1)"), 1024, 0);
+    zeroed(9, full_rows_and_terms("return (b + true)"), 1024, 0);
+    zeroed(10, full_rows_and_terms("return ((b + 1) + true)"), 1024, 0);
+    zeroed(10, full_rows_and_terms("b := iSym_0"), 1024, 0);
+}
+
 const struct test refusals_tests[] = {
     {"refusal 1: budgets", budgets},
     {"refusal 1 before 2", budgets_come_before_lengths},
@@ -420,5 +461,6 @@ const struct test refusals_tests[] = {
     {"refusal 8: last commands", last_commands},
     {"refusal 9: rows", too_many_rows},
     {"refusal 10: terms", too_many_terms},
+    {"refusal 9 or 10, whichever comes first", rows_or_terms_whichever_comes_first},
     {NULL, NULL},
 };
