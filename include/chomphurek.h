@@ -114,10 +114,10 @@ enum chomphurek_table {
 /* A row, and the plain run's answer. */
 enum chomphurek_row {
     CHOMPHUREK_ROW_OUTCOME = 0,
-    CHOMPHUREK_ROW_VALUE = 1,  /* two words. returned, failed: the value; error: 0 and the error number; cut: 0 and the reason */
+    CHOMPHUREK_ROW_VALUE = 1, /* two words. returned, failed: a value; error, cut: 0 and the number; vanished: 0 and 0 */
     CHOMPHUREK_ROW_STEPS = 3,
-    CHOMPHUREK_ROW_PROCEDURE = 4,  /* by its place in the text, from 0 */
-    CHOMPHUREK_ROW_COMMAND = 5,    /* from 0 in its procedure: the one that ended the path; for a cut the next one */
+    CHOMPHUREK_ROW_PROCEDURE = 4, /* by its place in the text, from 0 */
+    CHOMPHUREK_ROW_COMMAND = 5,   /* from 0 in its procedure: the one that ended the path; for a cut the next one */
     CHOMPHUREK_ROW_INPUT_COUNT = 6,
     CHOMPHUREK_ROW_CONDITION_COUNT = 7,
     CHOMPHUREK_ROW_VARIABLE_COUNT = 8,
@@ -174,14 +174,14 @@ enum chomphurek_error_number {
     CHOMPHUREK_ERROR_CELLS = 7      /* a thirty-third cell */
 };
 
-/* The first word of a value says what the second one is. The plain run's answer has none of the two terms. */
+/* The first word of a value says what the second one is. The plain run's answer has neither kind of term. */
 enum chomphurek_tag {
-    CHOMPHUREK_TAG_NOTHING = 0,      /* 0: a variable that is not bound */
-    CHOMPHUREK_TAG_NUMBER = 1,       /* the number */
-    CHOMPHUREK_TAG_BOOLEAN = 2,      /* 0 false, 1 true */
-    CHOMPHUREK_TAG_LOCATION = 3,     /* k of $k, 0 to 15 */
-    CHOMPHUREK_TAG_NUMBER_TERM = 4,  /* its place in the pool, 0 to 2,047 */
-    CHOMPHUREK_TAG_BOOLEAN_TERM = 5  /* its place in the pool, 0 to 2,047 */
+    CHOMPHUREK_TAG_NOTHING = 0,     /* 0: a variable that is not bound */
+    CHOMPHUREK_TAG_NUMBER = 1,      /* the number */
+    CHOMPHUREK_TAG_BOOLEAN = 2,     /* 0 false, 1 true */
+    CHOMPHUREK_TAG_LOCATION = 3,    /* k of $k, 0 to 15 */
+    CHOMPHUREK_TAG_NUMBER_TERM = 4, /* its place in the pool, 0 to 2,047 */
+    CHOMPHUREK_TAG_BOOLEAN_TERM = 5 /* its place in the pool, 0 to 2,047 */
 };
 
 enum chomphurek_term_kind {

@@ -186,7 +186,8 @@ static void faulty_commands(void)
     static const char *const commands[] = {
         "return;", "return (x);", "return(x);", "return not(x);", "return (not x);", "returnx;", "vanish x;", "fail;",
         "return -1;", "return (x - -1);", "return (x * 1);", "return (x + 1;", "return x + 1;", "return (x + 1 + 1);",
-        "return 01;", "return 00;", "return 4294967296;", "return 5a;", "return _a;", "return a2345678901234567;",
+        "return 01;", "return 00;", "return 4294967296;", "return 42949672950;", "return 18446744073709551616;",
+        "return 5a;", "return _a;", "return a2345678901234567;",
         "x : = 1; vanish;", "x = 1; vanish;", "x := ; vanish;", "true := 1; vanish;", "1 := 1; vanish;",
         "ifgoto true5; vanish;", "ifgoto true x; vanish;", "ifgoto true; vanish;", "ifgoto true 4294967296; vanish;",
         "x := uSym_256; vanish;", "x := uSym_00; vanish;", "x := iSym_; vanish;", "x := iSym_ 0; vanish;",
