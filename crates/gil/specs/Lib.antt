@@ -10,4 +10,5 @@ pub mod Explore
 pub mod Pool
 pub mod Layout
 pub mod Calls
+pub mod Theory
 pub mod Cases

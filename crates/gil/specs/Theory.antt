@@ -1,0 +1,3 @@
+-- Demand 3 proved over the definitions; Demand3 holds the statements. Assumes nothing.
+pub mod Trees
+pub mod Relation
