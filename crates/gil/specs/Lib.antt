@@ -10,5 +10,6 @@ pub mod Explore
 pub mod Pool
 pub mod Layout
 pub mod Calls
+pub mod Accounts
 pub mod Theory
 pub mod Cases

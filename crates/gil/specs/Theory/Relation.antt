@@ -48,9 +48,15 @@ module _ {A B : Type 0} (R : A → B → Type 0) where
   each-replicate (suc n) r = cons r (each-replicate n r)
 
   -- a test that falls out the same on both sides
-  either : (t : Bool) {a a′ : A} {b b′ : B} → R a b → R a′ b′ → R (elim t [ true ↦ a | false ↦ a′ ]) (elim t [ true ↦ b | false ↦ b′ ])
+  pub either : (t : Bool) {a a′ : A} {b b′ : B} → R a b → R a′ b′ → R (elim t [ true ↦ a | false ↦ a′ ]) (elim t [ true ↦ b | false ↦ b′ ])
   either true q r = q
   either false q r = r
+
+  pub either-of :
+      {t t′ : Bool} {a a′ : A} {b b′ : B}
+      → t ≡ t′ → R a b → R a′ b′ → R (elim t [ true ↦ a | false ↦ a′ ]) (elim t′ [ true ↦ b | false ↦ b′ ])
+  either-of {t} {t′} {a} {a′} {b} {b′} e q r =
+      subst (λ (x : Bool). R (elim t [ true ↦ a | false ↦ a′ ]) (elim x [ true ↦ b | false ↦ b′ ])) e (either t q r)
 
 module _ {A B : Type 0} {R Q : A → B → Type 0} (f : (a : A) (b : B) → R a b → Q a b) where
   pub each-map : (xs : List A) (ys : List B) → Each R xs ys → Each Q xs ys
@@ -160,7 +166,7 @@ module _ {M N : Model} {R : Relation M N} {A B : Type 0} {Q : M .World → A →
   later g (oks h k q) = oks (grows-on R g h) k q
   later g (errs h k) = errs (grows-on R g h) k
 
-  give-rel : {w : M .World} (a : A) (b : B) → Q w a b → Acts R Q w (Machine.give a) (Machine.give b)
+  pub give-rel : {w : M .World} (a : A) (b : B) → Q w a b → Acts R Q w (Machine.give a) (Machine.give b)
   unfolding Machine.give
   give-rel a b q v k = oks (grows-not R) k q
 

@@ -3,7 +3,7 @@
 -- ones). Assumes nothing.
 use Prim.Native.Nat.{ℕ}
 use mathlib.Core.Bool.{Bool, true, false}
-use mathlib.Core.Path.{_≡_, refl, sym}
+use mathlib.Core.Path.{_≡_, refl, sym, subst⁻¹}
 use mathlib.Core.List.{List, [], _∷_, _++_}
 use lib.ListN.{getD}
 use Rattle.gil.specs.Tree.{Op, plus, minus, equal, less, and, or}
@@ -57,7 +57,7 @@ treeValue inputs (term t) = valueIn inputs t
 unfoldable pub grown : List Tree → Node Tree → List Tree × Value Tree
 grown ts n = (ts ++ (planted n ∷ []), term (planted n))
 
-unfoldable pub trees : (List Tree → ℕ) → Model
+abbrev pub trees : (List Tree → ℕ) → Model
 trees count = record { World = List Tree; Term = Tree; sort = treeSort; made = count; make = grown }
 
 -- a term's value has the term's sort, and is no location
@@ -75,3 +75,27 @@ unfolding treeSort valueIn sortOf workNot
 value-sort inputs (input k) = refl
 value-sort inputs (neg a) = refl
 value-sort inputs (bin o a b) = sym (work-sort o (operandIn inputs a) (operandIn inputs b))
+
+-- no value of a term is a location
+abbrev isPlace : Constant → Type 0
+isPlace (number n) = ⊥
+isPlace (boolean b) = ⊥
+isPlace (location l) = Unit {0}
+
+no-work-place : (o : Op) (a b : Constant) → isPlace (work o a b) → ⊥
+unfolding work
+no-work-place plus a b h = h
+no-work-place minus a b h = h
+no-work-place equal a b h = h
+no-work-place less a b h = h
+no-work-place and a b h = h
+no-work-place or a b h = h
+
+no-place : (inputs : List ℕ) (t : Tree) → isPlace (valueIn inputs t) → ⊥
+unfolding valueIn workNot
+no-place inputs (input k) h = h
+no-place inputs (neg a) h = h
+no-place inputs (bin o a b) h = no-work-place o (operandIn inputs a) (operandIn inputs b) h
+
+pub value-place : (inputs : List ℕ) (t : Tree) (l : ℕ) → valueIn inputs t ≡ location l → ⊥
+value-place inputs t l e = no-place inputs t (subst⁻¹ isPlace e tt)

@@ -1,0 +1,59 @@
+-- What demand 3 speaks of: a row with inputs put in, and what it is for a list of rows to account for a run. Assumes nothing.
+use Prim.Native.Nat.{ℕ, zero, suc}
+use mathlib.Core.Bool.{Bool, true}
+use mathlib.Core.Path.{_≡_}
+use mathlib.Core.List.{List, [], _∷_, map}
+use mathlib.Core.Option.{Option, none, some}
+use Rattle.gil.specs.Values.{Constant, Value, const}
+use Rattle.gil.specs.Machine.{Cell, Store, End, returned, failed, vanished, error}
+use Rattle.gil.specs.Rows.{Condition, Outcome, ended, cut, steps, Row}
+
+-- a row as the plain run gives it: each value is the constant it comes to, conditions are gone, and a cut by either budget is a cut
+module _ {T : Type 0} (value : Value T → Constant) where
+  unfoldable pub putValue : Value T → Value ⊥
+  putValue v = const (value v)
+
+  unfoldable pub putVariable : Option (Value T) → Option (Value ⊥)
+  putVariable none = none
+  putVariable (some v) = some (putValue v)
+
+  unfoldable pub putCell : Cell T → Cell ⊥
+  putCell c = record { location = c .location; property = c .property; value = putValue (c .value) }
+
+  unfoldable pub putEnd : End T → End ⊥
+  putEnd (returned v) = returned (putValue v)
+  putEnd (failed v) = failed (putValue v)
+  putEnd vanished = vanished
+  putEnd (error n) = error n
+
+  unfoldable pub putOutcome : Outcome T → Outcome ⊥
+  putOutcome (ended e) = ended (putEnd e)
+  putOutcome (cut why) = cut steps
+
+  unfoldable pub putIn : Row T → Row ⊥
+  putIn r =
+      record {
+        outcome = putOutcome (r .outcome);
+        steps = r .steps;
+        procedure = r .procedure;
+        command = r .command;
+        inputs = r .inputs;
+        conditions = [];
+        variables = map putVariable (r .variables);
+        cells = map putCell (r .cells);
+      }
+
+-- `Stands k a l`: `a` is the k-th of the list
+pub data Stands {A : Type 0} : ℕ → A → List A → Type 0 where
+  here : {a : A} {l : List A} → Stands zero a (a ∷ l)
+  further : {k : ℕ} {a b : A} {l : List A} → Stands k a l → Stands (suc k) a (b ∷ l)
+
+-- Exactly one of the rows has its conditions met, and the run with that row's step count as budget is that row with the inputs put in:
+-- so it has its outcome, steps (it uses all of them), position, value or error, inputs read, variables and cells.
+pub record Accounted {T : Type 0} (meets : List (Condition T) → Bool) (value : Value T → Constant) (run : ℕ → Row ⊥) (rows : List (Row T)) : Type 0 where
+  pub place : ℕ
+  pub row : Row T
+  pub stands : Stands place row rows
+  pub met : meets (row .conditions) ≡ true
+  pub only : (k : ℕ) (r : Row T) → Stands k r rows → meets (r .conditions) ≡ true → k ≡ place
+  pub ran : run (row .steps) ≡ putIn value row

@@ -1,0 +1,109 @@
+-- Related rows are the same row with inputs put in, and their conditions hold alike; a plain run's row is itself. Assumes nothing.
+use Prim.Native.Nat.{ℕ}
+use mathlib.Core.Bool.{Bool, true, _&&_}
+use mathlib.Core.Path.{_≡_, refl, ap, ap₂, _∙_}
+use mathlib.Core.List.{List, [], _∷_, map}
+use mathlib.Core.Option.{Option, none, some}
+use Rattle.gil.specs.Values.{Constant, truthIn, sameTruth, Value, const, term}
+use Rattle.gil.specs.Machine.{Model, Cell, Store, State, End, returned, failed, vanished, error, Val}
+use Rattle.gil.specs.Rows.{Condition, Outcome, Path, Row, rowOf}
+use Rattle.gil.specs.Plain.{ran}
+use Rattle.gil.specs.Accounts.{putValue, putVariable, putCell, putEnd, putOutcome, putIn}
+use Rattle.gil.specs.Theory.Relation.{Each, nil, cons, Perhaps, unbound, bound, Relation, Values, Stores, Cells, cell, States, states, Ends}
+use Rattle.gil.specs.Theory.Relation as Relation
+use Rattle.gil.specs.Theory.Together.{Conditions, condition, Outcomes, ended, cut, RowsOf, row}
+
+-- a row from the parts of it that are not numbers
+rowFrom : {T : Type 0} → ℕ → ℕ → ℕ → ℕ → Outcome T → Store T → List (Cell T) → Row T
+rowFrom n f k i o ρ cs = record { outcome = o; steps = n; procedure = f; command = k; inputs = i; conditions = []; variables = ρ; cells = cs }
+
+parts : {T : Type 0} (n f k i : ℕ) {o o′ : Outcome T} {ρ ρ′ : Store T} {cs cs′ : List (Cell T)} → o ≡ o′ → ρ ≡ ρ′ → cs ≡ cs′ → rowFrom n f k i o ρ cs ≡ rowFrom n f k i o′ ρ′ cs′
+parts n f k i a b c = λ j. rowFrom n f k i (a j) (b j) (c j)
+
+-- conditions hold if each term has the truth it must have
+unfoldable pub holds : {T : Type 0} → (Value T → Constant) → List (Condition T) → Bool
+holds value [] = true
+holds value (c ∷ cs) = sameTruth (c .truth) (truthIn (value (term (c .term)))) && holds value cs
+
+module _ {M N : Model} {R : Relation M N} {w : M .World} (f : Val M → Constant) (g : Val N → Constant) (agree : (a : Val M) (b : Val N) → Values R w a b → f a ≡ g b) where
+  put-value : {a : Val M} {b : Val N} → Values R w a b → putValue f a ≡ putValue g b
+  unfolding putValue
+  put-value {a} {b} h = ap const (agree a b h)
+
+  put-variable : {a : Option (Val M)} {b : Option (Val N)} → Perhaps (Values R w) a b → putVariable f a ≡ putVariable g b
+  unfolding putVariable
+  put-variable unbound = refl
+  put-variable (bound h) = ap some (put-value h)
+
+  put-store : {ρ : Store (M .Term)} {ρ′ : Store (N .Term)} → Stores R w ρ ρ′ → map (putVariable f) ρ ≡ map (putVariable g) ρ′
+  put-store nil = refl
+  put-store (cons h hs) = ap₂ {C = Store ⊥} (λ x xs. x ∷ xs) (put-variable h) (put-store hs)
+
+  put-cell : {c : Cell (M .Term)} {c′ : Cell (N .Term)} → Cells R w c c′ → putCell f c ≡ putCell g c′
+  unfolding putCell
+  put-cell (cell {l} {q} h) = ap {B = Cell ⊥} (λ v. record { location = l; property = q; value = v }) (put-value h)
+
+  put-cells : {cs : List (Cell (M .Term))} {cs′ : List (Cell (N .Term))} → Each (Cells R w) cs cs′ → map (putCell f) cs ≡ map (putCell g) cs′
+  put-cells nil = refl
+  put-cells (cons h hs) = ap₂ {C = List (Cell ⊥)} (λ x xs. x ∷ xs) (put-cell h) (put-cells hs)
+
+  pub put-end : {e : End (M .Term)} {e′ : End (N .Term)} → Ends R w e e′ → putEnd f e ≡ putEnd g e′
+  unfolding putEnd
+  put-end (Relation.returned h) = ap returned (put-value h)
+  put-end (Relation.failed h) = ap failed (put-value h)
+  put-end Relation.vanished = refl
+  put-end Relation.error = refl
+
+  put-outcome : {o : Outcome (M .Term)} {o′ : Outcome (N .Term)} → Outcomes R w o o′ → putOutcome f o ≡ putOutcome g o′
+  unfolding putOutcome
+  put-outcome (ended h) = ap Rattle.gil.specs.Rows.ended (put-end h)
+  put-outcome cut = refl
+
+  pub put-row : {r : Row (M .Term)} {r′ : Row (N .Term)} → RowsOf R w r r′ → putIn f r ≡ putIn g r′
+  unfolding putIn rowFrom
+  put-row (row {n} {f = p} {k} {i} o cs ρ ds) = parts n p k i (put-outcome o) (put-store ρ) (put-cells ds)
+
+  -- the same of two paths that stand in related states, whatever their conditions
+  pub put-state :
+      (n : ℕ) (o : Outcome (M .Term)) (o′ : Outcome (N .Term)) (m m′ : ℕ) (ds : List (Condition (M .Term))) (ds′ : List (Condition (N .Term)))
+      {s : State (M .Term)} {s′ : State (N .Term)} → putOutcome f o ≡ putOutcome g o′ → States R w s s′
+      → putIn f (rowOf o n (record { state = s; steps = m; conditions = ds })) ≡ putIn g (rowOf o′ n (record { state = s′; steps = m′; conditions = ds′ }))
+  unfolding putIn rowOf rowFrom
+  put-state n o o′ m m′ ds ds′ e (states {c} ρ ρs cs) = parts n (c .procedure) (c .command) (c .inputs) e (put-store ρ) (put-cells cs)
+
+  pub holds-rel : {cs : List (Condition (M .Term))} {cs′ : List (Condition (N .Term))} → Each (Conditions R w) cs cs′ → holds f cs ≡ holds g cs′
+  unfolding holds
+  holds-rel nil = refl
+  holds-rel (cons (condition {b} h) hs) = ap₂ (λ x y. sameTruth b (truthIn x) && y) (agree _ _ (Relation.terms h)) (holds-rel hs)
+
+-- in a plain run every value is a constant
+unfoldable pub plainly : Value ⊥ → Constant
+plainly (const c) = c
+plainly (term t) = absurd t
+
+plain-value : (v : Value ⊥) → putValue plainly v ≡ v
+unfolding putValue plainly
+plain-value (const c) = refl
+plain-value (term t) = absurd t
+
+plain-store : (ρ : Store ⊥) → map (putVariable plainly) ρ ≡ ρ
+unfolding putVariable
+plain-store [] = refl
+plain-store (none ∷ ρ) = ap {B = Store ⊥} (λ xs. none ∷ xs) (plain-store ρ)
+plain-store (some v ∷ ρ) = ap₂ {C = Store ⊥} (λ x xs. some x ∷ xs) (plain-value v) (plain-store ρ)
+
+plain-cells : (cs : List (Cell ⊥)) → map (putCell plainly) cs ≡ cs
+unfolding putCell
+plain-cells [] = refl
+plain-cells (c ∷ cs) = ap₂ {C = List (Cell ⊥)} (λ v xs. record { location = c .location; property = c .property; value = v } ∷ xs) (plain-value (c .value)) (plain-cells cs)
+
+pub plain-end : (e : End ⊥) → putEnd plainly e ≡ e
+unfolding putEnd
+plain-end (returned v) = ap returned (plain-value v)
+plain-end (failed v) = ap failed (plain-value v)
+plain-end vanished = refl
+plain-end (error n) = refl
+
+pub plain-row : (o : Outcome ⊥) (n m : ℕ) (s : State ⊥) → putOutcome plainly o ≡ o → putIn plainly (rowOf o n (ran m s)) ≡ rowOf o n (ran m s)
+unfolding putIn rowOf ran rowFrom
+plain-row o n m s e = parts n (s .control .procedure) (s .control .command) (s .control .inputs) e (plain-store (s .variables)) (plain-cells (s .cells))

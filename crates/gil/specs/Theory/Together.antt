@@ -1,0 +1,157 @@
+-- Two explorations side by side: over related models that make terms in step and know no more of a truth than each other, every command
+-- of the one goes with the same command of the other. Assumes nothing.
+use Prim.Native.Nat.{ℕ, zero, suc}
+use mathlib.Core.Bool.{Bool, true, false}
+use mathlib.Core.Path.{_≡_, refl, ap}
+use mathlib.Core.List.{List, [], _∷_, _++_, map}
+use lib.ListN.{length}
+use lib.Dec.{ltb, leb}
+use Rattle.gil.specs.Names.{Program}
+use Rattle.gil.specs.Values.{Constant}
+use Rattle.gil.specs.Machine.{Model, Cell, Store, State, End, Next, Moved, move}
+use Rattle.gil.specs.Rows.{Condition, Reason, Outcome, Path, Row, rowOf, cutFor}
+use Rattle.gil.specs.Rows as Rows
+use Rattle.gil.specs.Explore.{Turn, Exploring, stepped, branched, turned, finish, waitingOn, onTurn, overfull, turnIn, afterMove, advance, begin, afterCommands}
+use Rattle.gil.specs.Explore as Explore
+use Rattle.gil.specs.Theory.Relation.{Each, nil, cons, each-length, each-append, each-map, either, either-of, Relation, Laws, Stores, Cells, States, Ends, Nexts, Grows, Moves, grow-store, grow-cells, grow-value, grow-state, move-rel, start-rel}
+use Rattle.gil.specs.Theory.Relation as Relation
+
+-- conditions, paths and rows, related part by part
+module _ {M N : Model} (R : Relation M N) where
+  pub data Conditions (w : M .World) : Condition (M .Term) → Condition (N .Term) → Type 0 where
+    condition : {t : M .Term} {u : N .Term} {b : Bool} → R .Terms w t u → Conditions w (record { term = t; truth = b }) (record { term = u; truth = b })
+
+  pub data Outcomes (w : M .World) : Outcome (M .Term) → Outcome (N .Term) → Type 0 where
+    ended : {e : End (M .Term)} {e′ : End (N .Term)} → Ends R w e e′ → Outcomes w (Rows.ended e) (Rows.ended e′)
+    cut : {why : Reason} → Outcomes w (Rows.cut why) (Rows.cut why)
+
+  pub data Paths (w : M .World) : Path (M .Term) → Path (N .Term) → Type 0 where
+    path :
+        {n : ℕ} {s : State (M .Term)} {s′ : State (N .Term)} {cs : List (Condition (M .Term))} {cs′ : List (Condition (N .Term))}
+        → States R w s s′ → Each (Conditions w) cs cs′
+        → Paths w (record { state = s; steps = n; conditions = cs }) (record { state = s′; steps = n; conditions = cs′ })
+
+  pub data RowsOf (w : M .World) : Row (M .Term) → Row (N .Term) → Type 0 where
+    row :
+        {o : Outcome (M .Term)} {o′ : Outcome (N .Term)} {n f k i : ℕ} {cs : List (Condition (M .Term))} {cs′ : List (Condition (N .Term))}
+        {ρ : Store (M .Term)} {ρ′ : Store (N .Term)} {ds : List (Cell (M .Term))} {ds′ : List (Cell (N .Term))}
+        → Outcomes w o o′ → Each (Conditions w) cs cs′ → Stores R w ρ ρ′ → Each (Cells R w) ds ds′
+        → RowsOf w
+        (record { outcome = o; steps = n; procedure = f; command = k; inputs = i; conditions = cs; variables = ρ; cells = ds })
+        (record { outcome = o′; steps = n; procedure = f; command = k; inputs = i; conditions = cs′; variables = ρ′; cells = ds′ })
+
+  pub data Turns (w : M .World) : Turn (M .Term) → Turn (N .Term) → Type 0 where
+    finishes : {r : Row (M .Term)} {r′ : Row (N .Term)} → RowsOf w r r′ → Turns w (Explore.finishes r) (Explore.finishes r′)
+    goes : {q : Path (M .Term)} {q′ : Path (N .Term)} → Paths w q q′ → Turns w (Explore.goes q) (Explore.goes q′)
+    forks : {a b : Path (M .Term)} {a′ b′ : Path (N .Term)} → Paths w a a′ → Paths w b b′ → Turns w (Explore.forks a b) (Explore.forks a′ b′)
+
+  pub data Explorings : Exploring (M .World) (M .Term) → Exploring (N .World) (N .Term) → Type 0 where
+    stopped : {n : ℕ} → Explorings (Explore.stopped n) (Explore.stopped n)
+    exploring :
+        {w : M .World} {v : N .World} {rs : List (Row (M .Term))} {rs′ : List (Row (N .Term))} {qs : List (Path (M .Term))} {qs′ : List (Path (N .Term))}
+        → R .Worlds w v → Each (RowsOf w) rs rs′ → Each (Paths w) qs qs′ → Explorings (Explore.exploring w rs qs) (Explore.exploring v rs′ qs′)
+
+-- in step: the same number of terms made, and no truth known on one side only
+pub record InStep {M N : Model} (R : Relation M N) : Type 0 where
+  pub laws : Laws R
+  pub unknown : (w : M .World) (t : M .Term) (c : Constant) → R .Valued w t c → ⊥
+  pub counted : (w : M .World) (v : N .World) → R .Worlds w v → M .made w ≡ N .made v
+
+module _ {M N : Model} {R : Relation M N} {w w′ : M .World} (g : Grows R w w′) where
+  grow-condition : (c : Condition (M .Term)) (c′ : Condition (N .Term)) → Conditions R w c c′ → Conditions R w′ c c′
+  grow-condition c c′ (condition {t} {u} h) = condition (g .keeps t u h)
+
+  grow-conditions : {cs : List (Condition (M .Term))} {cs′ : List (Condition (N .Term))} → Each (Conditions R w) cs cs′ → Each (Conditions R w′) cs cs′
+  grow-conditions {cs} {cs′} = each-map grow-condition cs cs′
+
+  grow-end : {e : End (M .Term)} {e′ : End (N .Term)} → Ends R w e e′ → Ends R w′ e e′
+  grow-end (Relation.returned v) = Relation.returned (grow-value g _ _ v)
+  grow-end (Relation.failed v) = Relation.failed (grow-value g _ _ v)
+  grow-end Relation.vanished = Relation.vanished
+  grow-end Relation.error = Relation.error
+
+  grow-outcome : {o : Outcome (M .Term)} {o′ : Outcome (N .Term)} → Outcomes R w o o′ → Outcomes R w′ o o′
+  grow-outcome (ended e) = ended (grow-end e)
+  grow-outcome cut = cut
+
+  grow-path : (q : Path (M .Term)) (q′ : Path (N .Term)) → Paths R w q q′ → Paths R w′ q q′
+  grow-path q q′ (path s cs) = path (grow-state g s) (grow-conditions cs)
+
+  grow-row : (r : Row (M .Term)) (r′ : Row (N .Term)) → RowsOf R w r r′ → RowsOf R w′ r r′
+  grow-row r r′ (row o cs ρ ds) = row (grow-outcome o) (grow-conditions cs) (grow-store g _ _ ρ) (grow-cells g _ _ ds)
+
+module _ {M N : Model} (R : Relation M N) {w : M .World} where
+  row-rel :
+      {o : Outcome (M .Term)} {o′ : Outcome (N .Term)} (n : ℕ) {q : Path (M .Term)} {q′ : Path (N .Term)}
+      → Outcomes R w o o′ → Paths R w q q′ → RowsOf R w (rowOf o n q) (rowOf o′ n q′)
+  unfolding rowOf
+  row-rel n h (path (Relation.states ρ ρs cs) ds) = row h ds ρ cs
+
+  pub cut-rel : (why : Reason) (q : Path (M .Term)) (q′ : Path (N .Term)) → Paths R w q q′ → RowsOf R w (cutFor why q) (cutFor why q′)
+  unfolding cutFor
+  cut-rel why q q′ (path {n} s cs) = row-rel n cut (path s cs)
+
+  branched-rel :
+      {t : M .Term} {u : N .Term} (b : Bool) {s : State (M .Term)} {s′ : State (N .Term)} {q : Path (M .Term)} {q′ : Path (N .Term)}
+      → R .Terms w t u → States R w s s′ → Paths R w q q′ → Paths R w (branched t b s q) (branched u b s′ q′)
+  unfolding branched
+  branched-rel b h s (path s₀ cs) = path s (each-append cs (cons (condition h) nil))
+
+  finish-rel :
+      {v : N .World} {rs : List (Row (M .Term))} {rs′ : List (Row (N .Term))} {r : Row (M .Term)} {r′ : Row (N .Term)} {qs : List (Path (M .Term))} {qs′ : List (Path (N .Term))}
+      → R .Worlds w v → Each (RowsOf R w) rs rs′ → RowsOf R w r r′ → Each (Paths R w) qs qs′
+      → Explorings R (waitingOn qs (finish w rs r)) (waitingOn qs′ (finish v rs′ r′))
+  unfolding waitingOn finish
+  finish-rel {qs} {qs′} k rs r ps =
+      either-of (λ x y. Explorings R (waitingOn qs x) (waitingOn qs′ y)) (ap (leb 64) (each-length rs)) stopped (exploring k (each-append rs (cons r nil)) ps)
+
+  turn-rel :
+      {v : N .World} {rs : List (Row (M .Term))} {rs′ : List (Row (N .Term))} {x : Turn (M .Term)} {x′ : Turn (N .Term)} {qs : List (Path (M .Term))} {qs′ : List (Path (N .Term))}
+      → R .Worlds w v → Each (RowsOf R w) rs rs′ → Turns R w x x′ → Each (Paths R w) qs qs′
+      → Explorings R (onTurn w rs qs x) (onTurn v rs′ qs′ x′)
+  unfolding onTurn
+  turn-rel k rs (finishes r) ps = finish-rel k rs r ps
+  turn-rel k rs (goes q) ps = exploring k rs (cons q ps)
+  turn-rel k rs (forks a b) ps = exploring k rs (cons a (cons b ps))
+
+module _ {M N : Model} {R : Relation M N} (I : InStep R) (p : Program) where
+  turned-rel :
+      (most : ℕ) (w : M .World) {q : Path (M .Term)} {q′ : Path (N .Term)} {x : Next (M .Term)} {x′ : Next (N .Term)}
+      → Paths R w q q′ → Nexts R w x x′ → Turns R w (turned most q x) (turned most q′ x′)
+  unfolding turned stepped
+  turned-rel most w (path s cs) (Relation.goes h) = goes (path h cs)
+  turned-rel most w (path {n} s cs) (Relation.stops h) = finishes (row-rel R (suc n) (ended h) (path s cs))
+  turned-rel most w (path s cs) (Relation.forks h a b) =
+      either-of (Turns R w) (ap (leb most) (each-length cs)) (finishes (cut-rel R Rows.branches _ _ (path s cs)))
+      (forks (branched-rel R true h a (path s cs)) (branched-rel R false h b (path s cs)))
+  turned-rel most w q (Relation.isTrue {t} h a) = absurd (I .unknown w t _ h)
+  turned-rel most w q (Relation.isFalse {t} h a) = absurd (I .unknown w t _ h)
+
+  afterMove-rel :
+      (most : ℕ) {w : M .World} {m : Moved M} {m′ : Moved N} {rs : List (Row (M .Term))} {rs′ : List (Row (N .Term))} {q : Path (M .Term)} {q′ : Path (N .Term)} {qs : List (Path (M .Term))} {qs′ : List (Path (N .Term))}
+      → Moves R w m m′ → Each (RowsOf R w) rs rs′ → Paths R w q q′ → Each (Paths R w) qs qs′
+      → Explorings R (afterMove M p most rs q qs m) (afterMove N p most rs′ q′ qs′ m′)
+  unfolding afterMove overfull turnIn
+  afterMove-rel most {m} {m′} h rs q qs =
+      let g = h .grows in
+      either-of (Explorings R) (ap (ltb 2048) (I .counted (m .world) (m′ .world) (h .worlds))) stopped
+      (turn-rel R (h .worlds) (each-map (grow-row g) _ _ rs) (turned-rel most (m .world) (grow-path g _ _ q) (h .nexts)) (each-map (grow-path g) _ _ qs))
+
+  pub advance-rel :
+      (budget most : ℕ) {x : Exploring (M .World) (M .Term)} {y : Exploring (N .World) (N .Term)}
+      → Explorings R x y → Explorings R (advance M p budget most x) (advance N p budget most y)
+  unfolding advance
+  advance-rel budget most stopped = stopped
+  advance-rel budget most (exploring k rs nil) = exploring k rs nil
+  advance-rel budget most (exploring {w} {v} k rs (cons (path {n} {s} {s′} h cs) qs)) =
+      either (Explorings R) (leb budget n)
+      (finish-rel R k rs (cut-rel R Rows.steps _ _ (path h cs)) qs)
+      (afterMove-rel most (move-rel (I .laws) p w v s s′ k h) rs (path h cs) qs)
+
+  -- after every command
+  pub commands-rel :
+      (budget most : ℕ) (w : M .World) (v : N .World) → R .Worlds w v
+      → (n : ℕ) → Explorings R (afterCommands M p budget most w n) (afterCommands N p budget most v n)
+  unfolding afterCommands begin
+  commands-rel budget most w v k zero = exploring k nil (cons (path (start-rel p) nil) nil)
+  commands-rel budget most w v k (suc n) = advance-rel budget most (commands-rel budget most w v k n)
