@@ -12,4 +12,5 @@ pub mod Layout
 pub mod Calls
 pub mod Accounts
 pub mod Theory
+pub mod Demand3
 pub mod Cases

@@ -7,3 +7,5 @@ pub mod TreePlain
 pub mod PoolTree
 pub mod Counting
 pub mod Exactly
+pub mod Ends
+pub mod Pooled

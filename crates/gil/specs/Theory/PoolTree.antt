@@ -13,6 +13,7 @@ use Rattle.gil.specs.Machine.{Model, making, combine, negated, give}
 use Rattle.gil.specs.Pool.{Ref, numberTerm, booleanTerm, refSort, refTo, placeIn, Pool, pooled, added, valueOf, nodeValue, valuesFrom, poolValues}
 use Rattle.gil.specs.Theory.Trees
 use Rattle.gil.specs.Theory.Trees.{Tree, trees, planted, treeSort, sortFor, valueIn, treeValue, operandIn, operand}
+use Rattle.gil.specs.Theory.Together.{InStep}
 use Rattle.gil.specs.Theory.Relation.{Relation, Laws, Values, consts, valued, terms, Acts, oks, Grows, give-rel}
 
 -- what is read where no term stands: false on all inputs, as the pool's values are past their end
@@ -150,6 +151,16 @@ asTrees-laws =
       inputs = λ w k. making-rel w (input k) (input k) refl;
       nots = not-rel;
       operators = operator-rel;
+    }
+
+-- terms are made in step
+pub asTrees-step : InStep asTrees
+unfolding asTrees pooled
+asTrees-step =
+    record {
+      laws = asTrees-laws;
+      unknown = λ w t c h. h;
+      counted = λ w ts h. sym (of-length w) ∙ ap length h;
     }
 
 -- evaluating the pool front to back gives each term the value of the tree that it reads as

@@ -87,9 +87,15 @@ module _ {M N : Model} (R : Relation M N) {w : M .World} where
   unfolding rowOf
   row-rel n h (path (Relation.states ρ ρs cs) ds) = row h ds ρ cs
 
-  pub cut-rel : (why : Reason) (q : Path (M .Term)) (q′ : Path (N .Term)) → Paths R w q q′ → RowsOf R w (cutFor why q) (cutFor why q′)
+  cut-rel : (why : Reason) (q : Path (M .Term)) (q′ : Path (N .Term)) → Paths R w q q′ → RowsOf R w (cutFor why q) (cutFor why q′)
   unfolding cutFor
   cut-rel why q q′ (path {n} s cs) = row-rel n cut (path s cs)
+
+  pub cuts-rel :
+      (why : Reason) {qs : List (Path (M .Term))} {qs′ : List (Path (N .Term))}
+      → Each (Paths R w) qs qs′ → Each (RowsOf R w) (map (cutFor why) qs) (map (cutFor why) qs′)
+  cuts-rel why nil = nil
+  cuts-rel why (cons q qs) = cons (cut-rel why _ _ q) (cuts-rel why qs)
 
   branched-rel :
       {t : M .Term} {u : N .Term} (b : Bool) {s : State (M .Term)} {s′ : State (N .Term)} {q : Path (M .Term)} {q′ : Path (N .Term)}
