@@ -9,7 +9,7 @@ use native.Mathlib.Nat.{suc-inj}
 use Rattle.gil.specs.Names.{Program}
 use Rattle.gil.specs.Values.{Constant, truthIn, sameTruth, Value, term}
 use Rattle.gil.specs.Machine.{Model, Val}
-use Rattle.gil.specs.Rows.{Condition, Path, Row, cutFor, steps}
+use Rattle.gil.specs.Rows.{Condition, Path, Row, rowOf, cutFor, steps}
 use Rattle.gil.specs.Plain.{plainRun}
 use Rattle.gil.specs.Explore.{Exploring, Explored, explored, waitingOn, afterCommands, explore}
 use Rattle.gil.specs.Explore as Explore
@@ -17,7 +17,7 @@ use Rattle.gil.specs.Pool.{Ref, Pool, pooled, table, valueOf, poolValues
 use Rattle.gil.specs.Accounts.{Stands, here, further, putIn, Accounted}
 use Rattle.gil.specs.Theory.Trees.{Tree, trees, treeValue}
 use Rattle.gil.specs.Theory.Relation.{Each, nil, cons, each-append, Relation, Values}
-use Rattle.gil.specs.Theory.Together.{Conditions, Paths, RowsOf, row, Explorings, exploring, cuts-rel, commands-rel}
+use Rattle.gil.specs.Theory.Together.{Conditions, path, RowsOf, row, Explorings, exploring, cuts-rel, commands-rel}
 use Rattle.gil.specs.Theory.PutIn.{holds, holds-rel, put-row}
 use Rattle.gil.specs.Theory.Counting.{no-false}
 use Rattle.gil.specs.Theory.PoolTree.{asTrees, asTrees-step, treesOf, treesFrom, same-value}
@@ -46,10 +46,12 @@ module _
     (same : (cs : List (Condition (M .Term))) (cs′ : List (Condition (N .Term))) → Each (Conditions R w) cs cs′ → m cs ≡ m′ cs′)
   where
     row-met : {r : Row (M .Term)} {r′ : Row (N .Term)} → RowsOf R w r r′ → m (r .conditions) ≡ m′ (r′ .conditions)
-    row-met (row o cs ρ ds) = same _ _ cs
+    unfolding rowOf
+    row-met (row n o (path s cs)) = same _ _ cs
 
     row-steps : {r : Row (M .Term)} {r′ : Row (N .Term)} → RowsOf R w r r′ → r .steps ≡ r′ .steps
-    row-steps (row o cs ρ ds) = refl
+    unfolding rowOf
+    row-steps (row n o q) = refl
 
     accounted-rel : (run : ℕ → Row ⊥) {rs : List (Row (M .Term))} {rs′ : List (Row (N .Term))} → Each (RowsOf R w) rs rs′ → Accounted m′ g run rs′ → Accounted m f run rs
     accounted-rel run {rs} {rs′} h a =

@@ -11,14 +11,24 @@ use Rattle.gil.specs.Plain.{ran}
 use Rattle.gil.specs.Accounts.{putValue, putVariable, putCell, putEnd, putOutcome, putIn}
 use Rattle.gil.specs.Theory.Relation.{Each, nil, cons, Perhaps, unbound, bound, Relation, Values, Stores, Cells, cell, States, states, Ends}
 use Rattle.gil.specs.Theory.Relation as Relation
-use Rattle.gil.specs.Theory.Together.{Conditions, condition, Outcomes, ended, cut, RowsOf, row}
+use Rattle.gil.specs.Theory.Together.{Conditions, condition, Outcomes, ended, cut, path, RowsOf, row}
 
--- a row from the parts of it that are not numbers
-rowFrom : {T : Type 0} → ℕ → ℕ → ℕ → ℕ → Outcome T → Store T → List (Cell T) → Row T
-rowFrom n f k i o ρ cs = record { outcome = o; steps = n; procedure = f; command = k; inputs = i; conditions = []; variables = ρ; cells = cs }
+-- a row with other values in it
+withParts : {T : Type 0} → Row T → Outcome T → Store T → List (Cell T) → Row T
+withParts r o ρ cs =
+    record {
+      outcome = o;
+      steps = r .steps;
+      procedure = r .procedure;
+      command = r .command;
+      inputs = r .inputs;
+      conditions = r .conditions;
+      variables = ρ;
+      cells = cs;
+    }
 
-parts : {T : Type 0} (n f k i : ℕ) {o o′ : Outcome T} {ρ ρ′ : Store T} {cs cs′ : List (Cell T)} → o ≡ o′ → ρ ≡ ρ′ → cs ≡ cs′ → rowFrom n f k i o ρ cs ≡ rowFrom n f k i o′ ρ′ cs′
-parts n f k i a b c = λ j. rowFrom n f k i (a j) (b j) (c j)
+parts : {T : Type 0} (r : Row T) {o o′ : Outcome T} {ρ ρ′ : Store T} {cs cs′ : List (Cell T)} → o ≡ o′ → ρ ≡ ρ′ → cs ≡ cs′ → withParts r o ρ cs ≡ withParts r o′ ρ′ cs′
+parts r a b c = λ j. withParts r (a j) (b j) (c j)
 
 -- conditions hold if each term has the truth it must have
 unfoldable pub holds : {T : Type 0} → (Value T → Constant) → List (Condition T) → Bool
@@ -59,17 +69,17 @@ module _ {M N : Model} {R : Relation M N} {w : M .World} (f : Val M → Constant
   put-outcome (ended h) = ap Rattle.gil.specs.Rows.ended (put-end h)
   put-outcome cut = refl
 
-  pub put-row : {r : Row (M .Term)} {r′ : Row (N .Term)} → RowsOf R w r r′ → putIn f r ≡ putIn g r′
-  unfolding putIn rowFrom
-  put-row (row {n} {f = p} {k} {i} o cs ρ ds) = parts n p k i (put-outcome o) (put-store ρ) (put-cells ds)
-
-  -- the same of two paths that stand in related states, whatever their conditions
+  -- two paths that stand in related states, whatever their conditions
   pub put-state :
       (n : ℕ) (o : Outcome (M .Term)) (o′ : Outcome (N .Term)) (m m′ : ℕ) (ds : List (Condition (M .Term))) (ds′ : List (Condition (N .Term)))
       {s : State (M .Term)} {s′ : State (N .Term)} → putOutcome f o ≡ putOutcome g o′ → States R w s s′
       → putIn f (rowOf o n (record { state = s; steps = m; conditions = ds })) ≡ putIn g (rowOf o′ n (record { state = s′; steps = m′; conditions = ds′ }))
-  unfolding putIn rowOf rowFrom
-  put-state n o o′ m m′ ds ds′ e (states {c} ρ ρs cs) = parts n (c .procedure) (c .command) (c .inputs) e (put-store ρ) (put-cells cs)
+  unfolding putIn rowOf withParts
+  put-state n o o′ m m′ ds ds′ e (states {c} {ρ} {ρs} {cs} h hs k) =
+      parts (putIn f (rowOf o n (record { state = record { control = c; variables = ρ; saved = ρs; cells = cs }; steps = m; conditions = ds }))) e (put-store h) (put-cells k)
+
+  pub put-row : {r : Row (M .Term)} {r′ : Row (N .Term)} → RowsOf R w r r′ → putIn f r ≡ putIn g r′
+  put-row (row {o} {o′} n h (path {n = m} {cs} {cs′} s c)) = put-state n o o′ m m cs cs′ (put-outcome h) s
 
   pub holds-rel : {cs : List (Condition (M .Term))} {cs′ : List (Condition (N .Term))} → Each (Conditions R w) cs cs′ → holds f cs ≡ holds g cs′
   unfolding holds
@@ -105,5 +115,5 @@ plain-end vanished = refl
 plain-end (error n) = refl
 
 pub plain-row : (o : Outcome ⊥) (n m : ℕ) (s : State ⊥) → putOutcome plainly o ≡ o → putIn plainly (rowOf o n (ran m s)) ≡ rowOf o n (ran m s)
-unfolding putIn rowOf ran rowFrom
-plain-row o n m s e = parts n (s .control .procedure) (s .control .command) (s .control .inputs) e (plain-store (s .variables)) (plain-cells (s .cells))
+unfolding putIn rowOf ran withParts
+plain-row o n m s e = parts (rowOf o n (ran m s)) e (plain-store (s .variables)) (plain-cells (s .cells))

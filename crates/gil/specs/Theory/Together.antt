@@ -31,14 +31,11 @@ module _ {M N : Model} (R : Relation M N) where
         → States R w s s′ → Each (Conditions w) cs cs′
         → Paths w (record { state = s; steps = n; conditions = cs }) (record { state = s′; steps = n; conditions = cs′ })
 
+  -- a row is always a path's, with an outcome and a step count
   pub data RowsOf (w : M .World) : Row (M .Term) → Row (N .Term) → Type 0 where
     row :
-        {o : Outcome (M .Term)} {o′ : Outcome (N .Term)} {n f k i : ℕ} {cs : List (Condition (M .Term))} {cs′ : List (Condition (N .Term))}
-        {ρ : Store (M .Term)} {ρ′ : Store (N .Term)} {ds : List (Cell (M .Term))} {ds′ : List (Cell (N .Term))}
-        → Outcomes w o o′ → Each (Conditions w) cs cs′ → Stores R w ρ ρ′ → Each (Cells R w) ds ds′
-        → RowsOf w
-        (record { outcome = o; steps = n; procedure = f; command = k; inputs = i; conditions = cs; variables = ρ; cells = ds })
-        (record { outcome = o′; steps = n; procedure = f; command = k; inputs = i; conditions = cs′; variables = ρ′; cells = ds′ })
+        {o : Outcome (M .Term)} {o′ : Outcome (N .Term)} (n : ℕ) {q : Path (M .Term)} {q′ : Path (N .Term)}
+        → Outcomes w o o′ → Paths w q q′ → RowsOf w (rowOf o n q) (rowOf o′ n q′)
 
   pub data Turns (w : M .World) : Turn (M .Term) → Turn (N .Term) → Type 0 where
     finishes : {r : Row (M .Term)} {r′ : Row (N .Term)} → RowsOf w r r′ → Turns w (Explore.finishes r) (Explore.finishes r′)
@@ -78,18 +75,12 @@ module _ {M N : Model} {R : Relation M N} {w w′ : M .World} (g : Grows R w w�
   grow-path q q′ (path s cs) = path (grow-state g s) (grow-conditions cs)
 
   grow-row : (r : Row (M .Term)) (r′ : Row (N .Term)) → RowsOf R w r r′ → RowsOf R w′ r r′
-  grow-row r r′ (row o cs ρ ds) = row (grow-outcome o) (grow-conditions cs) (grow-store g _ _ ρ) (grow-cells g _ _ ds)
+  grow-row r r′ (row n o q) = row n (grow-outcome o) (grow-path _ _ q)
 
 module _ {M N : Model} (R : Relation M N) {w : M .World} where
-  row-rel :
-      {o : Outcome (M .Term)} {o′ : Outcome (N .Term)} (n : ℕ) {q : Path (M .Term)} {q′ : Path (N .Term)}
-      → Outcomes R w o o′ → Paths R w q q′ → RowsOf R w (rowOf o n q) (rowOf o′ n q′)
-  unfolding rowOf
-  row-rel n h (path (Relation.states ρ ρs cs) ds) = row h ds ρ cs
-
   cut-rel : (why : Reason) (q : Path (M .Term)) (q′ : Path (N .Term)) → Paths R w q q′ → RowsOf R w (cutFor why q) (cutFor why q′)
   unfolding cutFor
-  cut-rel why q q′ (path {n} s cs) = row-rel n cut (path s cs)
+  cut-rel why q q′ (path {n} s cs) = row n cut (path s cs)
 
   pub cuts-rel :
       (why : Reason) {qs : List (Path (M .Term))} {qs′ : List (Path (N .Term))}
@@ -126,10 +117,10 @@ module _ {M N : Model} {R : Relation M N} (I : InStep R) (p : Program) where
       → Paths R w q q′ → Nexts R w x x′ → Turns R w (turned most q x) (turned most q′ x′)
   unfolding turned stepped
   turned-rel most w (path s cs) (Relation.goes h) = goes (path h cs)
-  turned-rel most w (path {n} s cs) (Relation.stops h) = finishes (row-rel R (suc n) (ended h) (path s cs))
+  turned-rel most w (path s cs) (Relation.stops h) = finishes (row _ (ended h) (path s cs))
   turned-rel most w (path s cs) (Relation.forks h a b) =
       either-of (Turns R w) (ap (leb most) (each-length cs)) (finishes (cut-rel R Rows.branches _ _ (path s cs)))
-      (forks (branched-rel R true h a (path s cs)) (branched-rel R false h b (path s cs)))
+      (forks (branched-rel R _ h a (path s cs)) (branched-rel R _ h b (path s cs)))
   turned-rel most w q (Relation.isTrue {t} h a) = absurd (I .unknown w t _ h)
   turned-rel most w q (Relation.isFalse {t} h a) = absurd (I .unknown w t _ h)
 
