@@ -183,32 +183,26 @@ module _ {M N : Model} {R : Relation M N} {A B C D : Type 0} {Q : M .World → A
   and-then (oks {w′} {v′} {a} {b} g k q) rest = later g (rest w′ a b g q v′ k)
   and-then (errs g k) rest = errs g k
 
--- answers that are the same on both sides
-abbrev Same : {W A : Type 0} → W → A → A → Type 0
-Same w a b = a ≡ b
+-- a test, and an option: they leave the world as it is
+module _ {M N : Model} {R : Relation M N} {C D : Type 0} {P : M .World → C → D → Type 0} where
+  must-same :
+      (t : Bool) (n : ℕ) (w : M .World) (m : Act M C) (m′ : Act N D)
+      → Acts R P w m m′ → Acts R P w (Machine._>>_ (Machine.must t n) m) (Machine._>>_ (Machine.must t n) m′)
+  unfolding Machine._>>_ Machine.must Machine.andThen Machine.give Machine.stop
+  must-same true n w m m′ h = h
+  must-same false n w m m′ h = stop-rel n
 
-module _ {M N : Model} {R : Relation M N} {A C D : Type 0} {P : M .World → C → D → Type 0} where
-  and-same :
-      {w : M .World} {r : Result (M .World) A} {r′ : Result (N .World) A} {f : A → Act M C} {f′ : A → Act N D}
-      → Results R Same w r r′ → ((w′ : M .World) (a : A) → Grows R w w′ → Acts R P w′ (f a) (f′ a))
-      → Results R P w (Machine.andThen r f) (Machine.andThen r′ f′)
-  and-same {f} {f′} h rest = and-then h (λ w′ a b g e. subst (λ (x : A). Acts R P w′ (f a) (f′ x)) e (rest w′ a g))
+  checking :
+      (n : ℕ) {w : M .World} (m : Act M C) (m′ : Act N D) {t t′ : Bool}
+      → t ≡ t′ → Acts R P w m m′ → Acts R P w (Machine._>>_ (Machine.must t n) m) (Machine._>>_ (Machine.must t′ n) m′)
+  checking n {w} m m′ {t} e h = subst (λ (x : Bool). Acts R P w (Machine._>>_ (Machine.must t n) m) (Machine._>>_ (Machine.must x n) m′)) e (must-same t n w m m′ h)
 
-module _ {M N : Model} {R : Relation M N} where
-  same-must : (w : M .World) (t : Bool) (n : ℕ) → Acts R Same w (Machine.must t n) (Machine.must t n)
-  unfolding Machine.must
-  same-must w true n = give-rel tt tt refl
-  same-must w false n = stop-rel n
-
-  must-rel : (w : M .World) {t t′ : Bool} (n : ℕ) → t ≡ t′ → Acts R Same w (Machine.must t n) (Machine.must t′ n)
-  must-rel w {t} {t′} n e = subst (λ (x : Bool). Acts R Same w (Machine.must t n) (Machine.must x n)) e (same-must w t n)
-
-  there-rel :
-      {A B : Type 0} {Q : M .World → A → B → Type 0} {w : M .World} {a : Option A} {b : Option B} (n : ℕ)
-      → Perhaps (Q w) a b → Acts R Q w (Machine.there a n) (Machine.there b n)
-  unfolding Machine.there
-  there-rel n unbound = stop-rel n
-  there-rel n (bound {a} {b} q) = give-rel a b q
+  fetching :
+      (n : ℕ) {A B : Type 0} {Q : A → B → Type 0} {w : M .World} {a : Option A} {b : Option B} (f : A → Act M C) (f′ : B → Act N D)
+      → Perhaps Q a b → ((x : A) (y : B) → Q x y → Acts R P w (f x) (f′ y)) → Acts R P w (Machine._>>=_ (Machine.there a n) f) (Machine._>>=_ (Machine.there b n) f′)
+  unfolding Machine._>>=_ Machine.there Machine.andThen Machine.give Machine.stop
+  fetching n f f′ unbound h = stop-rel n
+  fetching n f f′ (bound {a} {b} q) h = h a b q
 
 module _ {M N : Model} {R : Relation M N} (L : Laws R) where
   sort-rel : {w : M .World} {a : Val M} {b : Val N} → Values R w a b → Machine.sortIn M a ≡ Machine.sortIn N b
@@ -232,28 +226,51 @@ module _ {M N : Model} {R : Relation M N} (L : Laws R) where
   operate-rel o w a b a′ b′ q r = rw (sort-rel q, sort-rel r) (fitted-rel (fit o (Machine.sortIn N a′) (Machine.sortIn N b′)) o w a b a′ b′ q r)
 
   negate-rel : (w : M .World) (a : Val M) (b : Val N) → Values R w a b → Acts R (Values R) w (Machine.negate M a) (Machine.negate N b)
-  unfolding Machine.negate Machine._>>_
-  negate-rel w a b q v k = and-then (must-rel w 2 (ap (sameSort booleans) (sort-rel q)) v k) (λ w′ x y g e. L .nots w′ a b (grow-value g a b q))
+  unfolding Machine.negate
+  negate-rel w a b q = checking 2 _ _ (ap (sameSort booleans) (sort-rel q)) (L .nots w a b q)
+
+  variable-rel : {w : M .World} {a : Option (Val M)} {b : Option (Val N)} (n : ℕ) → Perhaps (Values R w) a b → Acts R (Values R) w (Machine.there a n) (Machine.there b n)
+  unfolding Machine.there
+  variable-rel n unbound = stop-rel n
+  variable-rel n (bound q) = give-rel _ _ q
 
   pub eval-rel : (e : Expr ℕ) (w : M .World) (ρ : Store (M .Term)) (ρ′ : Store (N .Term)) → Stores R w ρ ρ′ → Acts R (Values R) w (Machine.eval M ρ e) (Machine.eval N ρ′ e)
   unfolding Machine.eval Machine._>>=_
   eval-rel (num n) w ρ ρ′ h = give-rel _ _ consts
   eval-rel (bool b) w ρ ρ′ h = give-rel _ _ consts
-  eval-rel (var x) w ρ ρ′ h = there-rel 1 (each-getD (Perhaps (Values R w)) x h unbound)
+  eval-rel (var x) w ρ ρ′ h = variable-rel 1 (each-getD (Perhaps (Values R w)) x h unbound)
   eval-rel (neg e) w ρ ρ′ h = λ v k. and-then (eval-rel e w ρ ρ′ h v k) (λ w′ a b g q. negate-rel w′ a b q)
   eval-rel (bin o e d) w ρ ρ′ h = λ v k.
       and-then (eval-rel e w ρ ρ′ h v k) (λ w′ a a′ g q v k.
       and-then (eval-rel d w′ ρ ρ′ (grow-store g ρ ρ′ h) v k) (λ w″ b b′ g′ r. operate-rel o w″ a b a′ b′ (grow-value g′ a a′ q) r))
 
-  location-rel : (w : M .World) (a : Val M) (b : Val N) → Values R w a b → Acts R Same w (Machine.theLocation M a) (Machine.theLocation N b)
-  unfolding Machine.theLocation
-  location-rel w a b (consts {c = number n}) = stop-rel 2
-  location-rel w a b (consts {c = boolean t}) = stop-rel 2
-  location-rel w a b (consts {c = location l}) = give-rel l l refl
-  location-rel w a b (valued {c = number n} h) = stop-rel 2
-  location-rel w a b (valued {c = boolean t} h) = stop-rel 2
-  location-rel w a b (valued {t} {c = location l} h) = absurd (L .no-location w t l h)
-  location-rel w a b (terms h) = stop-rel 2
+-- evaluating makes terms; finding a location does not
+module _ {M N : Model} {R : Relation M N} (L : Laws R) {C D : Type 0} {P : M .World → C → D → Type 0} where
+  evaluating :
+      (e : Expr ℕ) {w : M .World} {ρ : Store (M .Term)} {ρ′ : Store (N .Term)} {f : Val M → Act M C} {f′ : Val N → Act N D} → Stores R w ρ ρ′
+      → ((w′ : M .World) (a : Val M) (b : Val N) → Grows R w w′ → Values R w′ a b → Acts R P w′ (f a) (f′ b))
+      → Acts R P w (Machine._>>=_ (Machine.eval M ρ e) f) (Machine._>>=_ (Machine.eval N ρ′ e) f′)
+  unfolding Machine._>>=_
+  evaluating e {w} {ρ} {ρ′} h rest v k = and-then (eval-rel L e w ρ ρ′ h v k) rest
+
+  receiving :
+      (k : ℕ) {w : M .World} {f : Val M → Act M C} {f′ : Val N → Act N D}
+      → ((w′ : M .World) (a : Val M) (b : Val N) → Grows R w w′ → Values R w′ a b → Acts R P w′ (f a) (f′ b))
+      → Acts R P w (Machine._>>=_ (making M (input k)) f) (Machine._>>=_ (making N (input k)) f′)
+  unfolding Machine._>>=_
+  receiving k {w} rest v i = and-then (L .inputs w k v i) rest
+
+  locating :
+      {w : M .World} {a : Val M} {b : Val N} (f : ℕ → Act M C) (f′ : ℕ → Act N D) → Values R w a b → ((l : ℕ) → Acts R P w (f l) (f′ l))
+      → Acts R P w (Machine._>>=_ (Machine.theLocation M a) f) (Machine._>>=_ (Machine.theLocation N b) f′)
+  unfolding Machine._>>=_ Machine.theLocation Machine.andThen Machine.give Machine.stop
+  locating f f′ (consts {c = number n}) rest = stop-rel 2
+  locating f f′ (consts {c = boolean t}) rest = stop-rel 2
+  locating f f′ (consts {c = location l}) rest = rest l
+  locating f f′ (valued {c = number n} h) rest = stop-rel 2
+  locating f f′ (valued {c = boolean t} h) rest = stop-rel 2
+  locating {w} f f′ (valued {t} {c = location l} h) rest = absurd (L .no-location w t l h)
+  locating f f′ (terms h) rest = stop-rel 2
 
 -- the cells, and the states that commands lead to
 module _ {M N : Model} {R : Relation M N} {w : M .World} where
@@ -292,6 +309,12 @@ module _ {M N : Model} {R : Relation M N} {w : M .World} where
   steer-rel : (f : Control → Control) {s : State (M .Term)} {s′ : State (N .Term)} → States R w s s′ → States R w (Machine.steer f s) (Machine.steer f s′)
   unfolding Machine.steer
   steer-rel f (states ρ ρs cs) = states ρ ρs cs
+
+  withCells-rel :
+      {cs : List (Cell (M .Term))} {cs′ : List (Cell (N .Term))} {s : State (M .Term)} {s′ : State (N .Term)}
+      → Each (Cells R w) cs cs′ → States R w s s′ → States R w (Machine.withCells cs s) (Machine.withCells cs′ s′)
+  unfolding Machine.withCells
+  withCells-rel cs (states ρ ρs cs₀) = states ρ ρs cs
 
   assigned-rel :
       (x : ℕ) {a : Val M} {b : Val N} {s : State (M .Term)} {s′ : State (N .Term)}
@@ -346,51 +369,52 @@ module _ {M N : Model} {R : Relation M N} (L : Laws R) where
   jump-rel n w a b s s′ (valued {t} {c = boolean false} q) h = λ v i.
       forking-rel w t _ _ _ booleans (L .valued-sort w t (boolean false) q) (oks (grows-not R) i (isFalse q (steer-rel Machine.onward h)))
   jump-rel n w a b s s′ (valued {t} {c = location l} q) h = λ v i. absurd (L .no-location w t l q)
-  jump-rel n w a b s s′ (terms {t} {u} q) h = λ v i.
-      and-then (must-rel w 2 (ap (sameSort booleans) (L .terms-sort w t u q)) v i) (λ w′ x y g e.
-      give-rel _ _ (forks (g .keeps t u q) (grow-state g (steer-rel (Machine.goto n) h)) (grow-state g (steer-rel Machine.onward h))))
+  jump-rel n w a b s s′ (terms {t} {u} q) h =
+      checking 2 _ _ (ap (sameSort booleans) (L .terms-sort w t u q)) (give-rel _ _ (forks q (steer-rel (Machine.goto n) h) (steer-rel Machine.onward h)))
 
   exec-rel :
       (p : Program) (d : Cmd ℕ) (w : M .World) (s : State (M .Term)) (s′ : State (N .Term))
       → States R w s s′ → Acts R (Nexts R) w (Machine.exec M p s d) (Machine.exec N p s′ d)
-  unfolding Machine.exec Machine._>>=_ Machine._>>_ Machine.withCells
-  exec-rel p (assign x e) w s s′ (states ρ ρs cs) = λ v k.
-      and-then (eval-rel L e w _ _ ρ v k) (λ w′ a b g q. give-rel _ _ (goes (assigned-rel x q (grow-state g (states ρ ρs cs)))))
-  exec-rel p (ifgoto e n) w s s′ (states ρ ρs cs) = λ v k.
-      and-then (eval-rel L e w _ _ ρ v k) (λ w′ a b g q. jump-rel n w′ a b _ _ q (grow-state g (states ρ ρs cs)))
-  exec-rel p (call x f e) w s s′ (states ρ ρs cs) = λ v k.
-      and-then (eval-rel L e w _ _ ρ v k) (λ w₁ a b g q v k.
-      and-same (must-rel w₁ 4 refl v k) (λ w₂ u h.
-      give-rel _ _ (goes (opened-rel p x f (grow-value h a b q) (grow-state (grows-on R g h) (states ρ ρs cs))))))
-  exec-rel p (lookup x e q) w s s′ (states ρ ρs cs) = λ v k.
-      and-then (eval-rel L e w _ _ ρ v k) (λ w₁ a b g r v k.
-      and-same (location-rel L w₁ a b r v k) (λ w₂ l h v k.
-      let cs₂ = grow-cells (grows-on R g h) _ _ cs in
-      and-then (there-rel 3 (cellAt-rel l q cs₂) v k) (λ w₃ c d i t.
-      give-rel _ _ (goes (assigned-rel x t (grow-state (grows-on R (grows-on R g h) i) (states ρ ρs cs)))))))
-  exec-rel p (mutate x e q d) w s s′ (states ρ ρs cs) = λ v k.
-      and-then (eval-rel L e w _ _ ρ v k) (λ w₁ a a′ g r v k.
-      and-then (eval-rel L d w₁ _ _ (grow-store g _ _ ρ) v k) (λ w₂ b b′ h t v k.
-      and-same (location-rel L w₂ a a′ (grow-value h a a′ r) v k) (λ w₃ l i v k.
-      let put = putCell-rel l q (grow-value i b b′ t) (grow-cells (grows-on R (grows-on R g h) i) _ _ cs) in
-      and-same (must-rel w₃ 7 (ap (λ (n : ℕ). leb n 32) (each-length put)) v k) (λ w₄ u j.
-      let all = grows-on R (grows-on R (grows-on R g h) i) j in
-      give-rel _ _ (goes (assigned-rel x consts (states (grow-store all _ _ ρ) (each-map (grow-store all) _ _ ρs) (grow-cells j _ _ put))))))))
-  exec-rel p (dispose x e) w s s′ (states ρ ρs cs) = λ v k.
-      and-then (eval-rel L e w _ _ ρ v k) (λ w₁ a b g r v k.
-      and-same (location-rel L w₁ a b r v k) (λ w₂ l h.
-      let all = grows-on R g h in
-      give-rel _ _ (goes (assigned-rel x consts (states (grow-store all _ _ ρ) (each-map (grow-store all) _ _ ρs) (withoutCells-rel l (grow-cells all _ _ cs)))))))
-  exec-rel p (uSym x j) w s s′ (states ρ ρs cs) = λ v k.
-      and-same (must-rel w 6 refl v k) (λ w₁ u g. give-rel _ _ (goes (assigned-rel x consts (steer-rel Machine.withLocation (grow-state g (states ρ ρs cs))))))
-  exec-rel p (iSym x j) w s s′ (states {c} ρ ρs cs) = λ v k.
-      and-same (must-rel w 5 refl v k) (λ w₁ u g v k.
-      and-then (L .inputs w₁ (c .inputs) v k) (λ w₂ a b h q.
-      give-rel _ _ (goes (assigned-rel x q (steer-rel Machine.withInput (grow-state (grows-on R g h) (states ρ ρs cs)))))))
-  exec-rel p (return e) w s s′ (states {c} ρ ρs cs) = λ v k.
-      and-then (eval-rel L e w _ _ ρ v k) (λ w₁ a b g q. give-rel _ _ (returnsTo-rel (c .callers) q (grow-state g (states ρ ρs cs))))
-  exec-rel p (fail e) w s s′ (states ρ ρs cs) = λ v k.
-      and-then (eval-rel L e w _ _ ρ v k) (λ w₁ a b g q. give-rel _ _ (stops (failed q)))
+  unfolding Machine.exec
+  exec-rel p (assign x e) w s s′ (states ρ ρs cs) =
+      evaluating L e ρ (λ w₁ a b g v.
+      give-rel _ _ (goes (assigned-rel x v (grow-state g (states ρ ρs cs)))))
+  exec-rel p (ifgoto e n) w s s′ (states ρ ρs cs) =
+      evaluating L e ρ (λ w₁ a b g v.
+      jump-rel n w₁ a b _ _ v (grow-state g (states ρ ρs cs)))
+  exec-rel p (call x f e) w s s′ (states ρ ρs cs) =
+      evaluating L e ρ (λ w₁ a b g v.
+      checking 4 _ _ refl (
+      give-rel _ _ (goes (opened-rel p x f v (grow-state g (states ρ ρs cs))))))
+  exec-rel p (lookup x e q) w s s′ (states ρ ρs cs) =
+      evaluating L e ρ (λ w₁ a b g v.
+      locating L _ _ v (λ l.
+      fetching 3 _ _ (cellAt-rel l q (grow-cells g _ _ cs)) (λ c d u.
+      give-rel _ _ (goes (assigned-rel x u (grow-state g (states ρ ρs cs)))))))
+  exec-rel p (mutate x e q d) w s s′ (states ρ ρs cs) =
+      evaluating L e ρ (λ w₁ a a′ g v.
+      evaluating L d (grow-store g _ _ ρ) (λ w₂ b b′ g′ u.
+      locating L _ _ (grow-value g′ a a′ v) (λ l.
+      let put = putCell-rel l q u (grow-cells (grows-on R g g′) _ _ cs) in
+      checking 7 _ _ (ap (λ (n : ℕ). leb n 32) (each-length put)) (
+      give-rel _ _ (goes (assigned-rel x consts (withCells-rel put (grow-state (grows-on R g g′) (states ρ ρs cs)))))))))
+  exec-rel p (dispose x e) w s s′ (states ρ ρs cs) =
+      evaluating L e ρ (λ w₁ a b g v.
+      locating L _ _ v (λ l.
+      give-rel _ _ (goes (assigned-rel x consts (withCells-rel (withoutCells-rel l (grow-cells g _ _ cs)) (grow-state g (states ρ ρs cs)))))))
+  exec-rel p (uSym x j) w s s′ (states ρ ρs cs) =
+      checking 6 _ _ refl (
+      give-rel _ _ (goes (assigned-rel x consts (steer-rel Machine.withLocation (states ρ ρs cs)))))
+  exec-rel p (iSym x j) w s s′ (states {c} ρ ρs cs) =
+      checking 5 _ _ refl (
+      receiving L (c .inputs) (λ w₁ a b g v.
+      give-rel _ _ (goes (assigned-rel x v (steer-rel Machine.withInput (grow-state g (states ρ ρs cs)))))))
+  exec-rel p (return e) w s s′ (states {c} ρ ρs cs) =
+      evaluating L e ρ (λ w₁ a b g v.
+      give-rel _ _ (returnsTo-rel (c .callers) v (grow-state g (states ρ ρs cs))))
+  exec-rel p (fail e) w s s′ (states ρ ρs cs) =
+      evaluating L e ρ (λ w₁ a b g v.
+      give-rel _ _ (stops (failed v)))
   exec-rel p vanish w s s′ h = give-rel _ _ (stops vanished)
 
   settled-rel : (w : M .World) {r : Result (M .World) (Next (M .Term))} {r′ : Result (N .World) (Next (N .Term))} → Results R (Nexts R) w r r′ → Moves R w (Machine.settled M r) (Machine.settled N r′)
