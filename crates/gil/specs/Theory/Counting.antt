@@ -1,5 +1,5 @@
 -- How many of a list pass a test, and the one that does where it is one. Assumes nothing.
-use Prim.Native.Nat.{ℕ, zero, suc, _+_}
+use Prim.Native.Nat.{ℕ, suc, _+_}
 use mathlib.Core.Bool.{Bool, true, false, _&&_}
 use mathlib.Core.Path.{_≡_, refl, sym, ap, _∙_, subst}
 use mathlib.Core.List.{List, [], _∷_, _++_}
@@ -65,7 +65,14 @@ module _ {A : Type 0} where
       first e (further s) i = absurd (none-passes f e s i)
 
   only-further : (f : A → Bool) (a : A) (l : List A) → f a ≡ false → Only f l → Only f (a ∷ l)
-  only-further f a l h o = record { place = suc (o .place); found = o .found; stands = further (o .stands); passes = o .passes; only = λ k b s i. second s i }
+  only-further f a l h o =
+      record {
+        place = suc (o .place);
+        found = o .found;
+        stands = further (o .stands);
+        passes = o .passes;
+        only = λ k b s i. second s i;
+      }
     where
       second : {k : ℕ} {b : A} → Stands k b (a ∷ l) → f b ≡ true → k ≡ suc (o .place)
       second here i = no-false i h
@@ -77,8 +84,12 @@ module _ {A : Type 0} where
   only-one f (a ∷ l) e = at (f a) refl (only-one f l)
     where
       at : (b : Bool) → f a ≡ b → (many f l ≡ 1 → Only f l) → Only f (a ∷ l)
-      at true h rest = only-here f a l h (let d : one true + many f l ≡ 1 = subst (λ (b : Bool). one b + many f l ≡ 1) h e in omega arith)
-      at false h rest = only-further f a l h (rest (let d : one false + many f l ≡ 1 = subst (λ (b : Bool). one b + many f l ≡ 1) h e in omega arith))
+      at true h rest =
+          let d : one true + many f l ≡ 1 = subst (λ (b : Bool). one b + many f l ≡ 1) h e in
+          only-here f a l h (omega arith)
+      at false h rest =
+          let d : one false + many f l ≡ 1 = subst (λ (b : Bool). one b + many f l ≡ 1) h e in
+          only-further f a l h (rest (omega arith))
 
 pub and-true : (b : Bool) → b && true ≡ b
 and-true true = refl

@@ -5,22 +5,25 @@ use mathlib.Core.Bool.{Bool, true, false}
 use mathlib.Core.Path.{_≡_, refl, sym, ap, _∙_, subst}
 use mathlib.Core.List.{List, [], _∷_, _++_}
 use lib.ListN.{length, length-append}
-use lib.Dec.{ltb, leb}
+use lib.Dec.{leb}
 use borrow.Author.Tests.{leb-true, leb-false}
 use native.Mathlib.Omega.{arith}
 use native.Mathlib.Nat.{suc-mul}
 use Rattle.gil.specs.Names.{Program}
-use Rattle.gil.specs.Machine.{Model, State, Next, on, ends, fork, Moved, move}
+use Rattle.gil.specs.Machine.{Model, Next, on, ends, fork, Moved, move}
 use Rattle.gil.specs.Rows.{Path, Row, rowOf, cutFor, ended, steps, branches}
-use Rattle.gil.specs.Explore.{Turn, finishes, goes, forks, stepped, branched, turned, Explored, refused, explored, Exploring, stopped, exploring, finish, waitingOn, onTurn, walkTurn, overfull, turnIn, afterMove, advance, begin, afterCommands, walkMove, walk, explore}
+use Rattle.gil.specs.Explore.{stepped, branched, turned, Explored, refused, explored, Exploring, stopped, exploring, finish, waitingOn, onTurn, walkTurn, overfull, turnIn, afterMove, advance, begin, afterCommands, walkMove, walk, explore}
 
 -- two functions that agree on both sides of a test
-picks : {A B C : Type 0} (f : A → C) (g : B → C) (t : Bool) {a a′ : A} {b b′ : B} → f a ≡ g b → f a′ ≡ g b′ → f (elim t [ true ↦ a | false ↦ a′ ]) ≡ g (elim t [ true ↦ b | false ↦ b′ ])
+picks :
+    {A B C : Type 0} (f : A → C) (g : B → C) (t : Bool) {a a′ : A} {b b′ : B} → f a ≡ g b → f a′ ≡ g b′
+    → f (elim t [ true ↦ a | false ↦ a′ ]) ≡ g (elim t [ true ↦ b | false ↦ b′ ])
 picks f g true d e = d
 picks f g false d e = e
 
 -- what holds on the side that a test falls out
-pub chosen : {A : Type 0} (P : A → Type 0) (t : Bool) {a b : A} → (t ≡ true → P a) → (t ≡ false → P b) → P (elim t [ true ↦ a | false ↦ b ])
+pub chosen :
+    {A : Type 0} (P : A → Type 0) (t : Bool) {a b : A} → (t ≡ true → P a) → (t ≡ false → P b) → P (elim t [ true ↦ a | false ↦ b ])
 chosen P true f g = f refl
 chosen P false f g = g refl
 
@@ -56,7 +59,8 @@ module _ (M : Model) (p : Program) (budget most : ℕ) where
   rest-turn w rows qs q (on s) = refl
   rest-turn w rows qs q (ends e) = rest-waiting qs (finish w rows (rowOf (ended e) (suc (q .steps)) q))
   rest-turn w rows qs q (fork t a b) =
-      picks (λ x. rest (onTurn w rows qs x)) (λ x. walkAll qs (walkTurn (walk M p most (budget - suc (q .steps))) w rows x)) (leb most (length (q .conditions)))
+      picks (λ x. rest (onTurn w rows qs x)) (λ x. walkAll qs (walkTurn (walk M p most (budget - suc (q .steps))) w rows x))
+      (leb most (length (q .conditions)))
       (rest-waiting qs (finish w rows (cutFor branches q))) refl
 
   rest-cut :
@@ -108,7 +112,8 @@ module _ (M : Model) (p : Program) (budget most : ℕ) where
   row-left w rows r (q ∷ qs) k h =
       let d : length (rows ++ (r ∷ [])) ≡ length rows + 1 = length-append rows (r ∷ []) in
       let e : 64 - length rows ≡ suc (64 - length (rows ++ (r ∷ []))) = omega arith in
-      let f : (64 - length rows) * suc budget ≡ (64 - length (rows ++ (r ∷ []))) * suc budget + suc budget = ap (λ (i : ℕ). i * suc budget) e ∙ suc-mul (64 - length (rows ++ (r ∷ []))) (suc budget) in
+      let f : (64 - length rows) * suc budget ≡ (64 - length (rows ++ (r ∷ []))) * suc budget + suc budget =
+      ap (λ (i : ℕ). i * suc budget) e ∙ suc-mul (64 - length (rows ++ (r ∷ []))) (suc budget) in
       omega arith
 
   finish-left :
@@ -128,7 +133,8 @@ module _ (M : Model) (p : Program) (budget most : ℕ) where
   turn-left w rows qs q (on s) h = omega arith
   turn-left w rows qs q (ends e) h = finish-left w rows qs (rowOf (ended e) (suc (q .steps)) q) (budget - q .steps)
   turn-left w rows qs q (fork t a b) h =
-      let less : suc (budget - suc (q .steps)) + (64 - length rows) * suc budget ≤ budget - q .steps + (64 - length rows) * suc budget = omega arith in
+      let less : suc (budget - suc (q .steps)) + (64 - length rows) * suc budget ≤ budget - q .steps + (64 - length rows) * suc budget =
+      omega arith in
       chosen (λ x. left (onTurn w rows qs x) ≤ budget - q .steps + (64 - length rows) * suc budget) (leb most (length (q .conditions)))
       (λ e. finish-left w rows qs (cutFor branches q) (budget - q .steps))
       (λ e. less)
@@ -158,8 +164,9 @@ module _ (M : Model) (p : Program) (budget most : ℕ) where
   unfolding afterCommands left begin
   commands-left w zero = omega arith
   commands-left w (suc n) =
-      let ih : left (afterCommands M p budget most w n) ≤ 65 * suc budget - n = commands-left w n in
-      let h : left (advance M p budget most (afterCommands M p budget most w n)) ≤ left (afterCommands M p budget most w n) - 1 = advance-left (afterCommands M p budget most w n) in
+      let x = afterCommands M p budget most w n in
+      let ih : left x ≤ 65 * suc budget - n = commands-left w n in
+      let h : left (advance M p budget most x) ≤ left x - 1 = advance-left x in
       omega arith
 
   none-left : (x : Exploring (M .World) (M .Term)) → left x ≤ 0 → x ≡ waitingOn [] (rest x)
@@ -169,7 +176,8 @@ module _ (M : Model) (p : Program) (budget most : ℕ) where
   none-left (exploring w rows (q ∷ qs)) h = absurd (omega arith)
 
   -- it ends, and comes to the table
-  pub ends-in : (w : M .World) (n : ℕ) → 65 * suc budget ≤ n → afterCommands M p budget most w n ≡ waitingOn [] (explore M p budget most w)
+  pub ends-in :
+      (w : M .World) (n : ℕ) → 65 * suc budget ≤ n → afterCommands M p budget most w n ≡ waitingOn [] (explore M p budget most w)
   ends-in w n h =
       let k : left (afterCommands M p budget most w n) ≤ 65 * suc budget - n = commands-left w n in
       let none : left (afterCommands M p budget most w n) ≤ 0 = omega arith in

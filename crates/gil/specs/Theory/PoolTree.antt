@@ -1,6 +1,6 @@
 -- The pool beside trees: reading a pool back, front to back; a reference goes with the tree that stands in its place. A new pool is a
 -- new file like this one. Assumes nothing.
-use Prim.Native.Nat.{ℕ, zero, suc, _+_, _<_}
+use Prim.Native.Nat.{ℕ, _+_, _<_}
 use mathlib.Core.Bool.{Bool, true, false}
 use mathlib.Core.Path.{_≡_, refl, sym, ap, ap₂, _∙_, subst}
 use mathlib.Core.List.{List, [], _∷_, _++_, map}
@@ -8,9 +8,9 @@ use lib.ListN.{length, getD, length-append, List·getD-append, List·getD-map}
 use lib.Seq.{getD-at}
 use native.Mathlib.Omega.{arith}
 use Rattle.gil.specs.Tree.{Op}
-use Rattle.gil.specs.Values.{Constant, boolean, Sort, truthIn, work, workNot, Value, const, term, Node, input, neg, bin, givesNumber, opGivesNumber}
-use Rattle.gil.specs.Machine.{Model, making, combine, negated, give}
-use Rattle.gil.specs.Pool.{Ref, numberTerm, booleanTerm, refSort, refTo, placeIn, Pool, pooled, added, valueOf, nodeValue, valuesFrom, poolValues}
+use Rattle.gil.specs.Values.{Constant, boolean, truthIn, work, workNot, Value, const, term, Node, input, neg, bin, givesNumber}
+use Rattle.gil.specs.Machine.{making, combine, negated}
+use Rattle.gil.specs.Pool.{Ref, refSort, refTo, placeIn, Pool, pooled, added, valueOf, nodeValue, valuesFrom, poolValues}
 use Rattle.gil.specs.Theory.Trees
 use Rattle.gil.specs.Theory.Trees.{Tree, trees, planted, treeSort, sortFor, valueIn, treeValue, operandIn, operand}
 use Rattle.gil.specs.Theory.Together.{InStep}
@@ -38,7 +38,9 @@ treesFrom ts (n ∷ ns) = treesFrom (ts ++ (planted (readNode ts n) ∷ [])) ns
 unfoldable pub treesOf : Pool → List Tree
 treesOf w = treesFrom [] w
 
-from-append : (ts : List Tree) (w : Pool) (n : Node Ref) → treesFrom ts (w ++ (n ∷ [])) ≡ treesFrom ts w ++ (planted (readNode (treesFrom ts w) n) ∷ [])
+from-append :
+    (ts : List Tree) (w : Pool) (n : Node Ref)
+    → treesFrom ts (w ++ (n ∷ [])) ≡ treesFrom ts w ++ (planted (readNode (treesFrom ts w) n) ∷ [])
 unfolding treesFrom
 from-append ts [] n = refl
 from-append ts (m ∷ w) n = from-append (ts ++ (planted (readNode ts m) ∷ [])) w n
@@ -47,8 +49,9 @@ from-length : (ts : List Tree) (w : Pool) → length (treesFrom ts w) ≡ length
 unfolding treesFrom
 from-length ts [] = omega arith
 from-length ts (m ∷ w) =
-    let e : length (treesFrom (ts ++ (planted (readNode ts m) ∷ [])) w) ≡ length (ts ++ (planted (readNode ts m) ∷ [])) + length w = from-length (ts ++ (planted (readNode ts m) ∷ [])) w in
-    let d : length (ts ++ (planted (readNode ts m) ∷ [])) ≡ length ts + 1 = length-append ts (planted (readNode ts m) ∷ []) in
+    let us = ts ++ (planted (readNode ts m) ∷ []) in
+    let e : length (treesFrom us w) ≡ length us + length w = from-length us w in
+    let d : length us ≡ length ts + 1 = length-append ts (planted (readNode ts m) ∷ []) in
     omega arith
 
 pub of-length : (w : Pool) → length (treesOf w) ≡ length w
@@ -65,7 +68,11 @@ pub record Reads (w : Pool) (r : Ref) (t : Tree) : Type 0 where
   pub sorts : refSort r ≡ treeSort t
   pub within : placeIn r < length w
 
-unfoldable pub asTrees : Relation pooled (trees length)
+-- each term made counts
+abbrev pub counted : List Tree → ℕ
+counted = length
+
+unfoldable pub asTrees : Relation pooled (trees counted)
 unfolding pooled
 asTrees = record { Worlds = λ w ts. treesOf w ≡ ts; Valued = λ w r c. ⊥; Terms = Reads }
 
@@ -114,27 +121,31 @@ newest w n =
       within = omega (arith, length-append w (n ∷ []));
     }
 
-making-rel : (w : Pool) (n : Node Ref) (m : Node Tree) → readNode (treesOf w) n ≡ m → unfold pooled in Acts asTrees (Values asTrees) w (making pooled n) (making (trees length) m)
+making-rel :
+    (w : Pool) (n : Node Ref) (m : Node Tree) → readNode (treesOf w) n ≡ m
+    → unfold pooled in Acts asTrees (Values asTrees) w (making pooled n) (making (trees counted) m)
 unfolding asTrees making pooled added Trees.grown
 making-rel w n m e ts k =
     oks (still w n) (of-append w n ∙ ap₂ (λ (us : List Tree) (x : Node Tree). us ++ (planted x ∷ [])) k e)
     (terms (subst (λ (x : Node Tree). Reads (w ++ (n ∷ [])) (refTo (givesNumber n) (length w)) (planted x)) e (newest w n)))
 
 not-rel :
-    (w : pooled .World) (a : Value (pooled .Term)) (b : Value (trees length .Term))
-    → Values asTrees w a b → Acts asTrees (Values asTrees) w (negated pooled a) (negated (trees length) b)
+    (w : pooled .World) (a : Value (pooled .Term)) (b : Value (trees counted .Term))
+    → Values asTrees w a b → Acts asTrees (Values asTrees) w (negated pooled a) (negated (trees counted) b)
 unfolding asTrees negated pooled readNode readValue
 not-rel w a b consts = give-rel _ _ consts
 not-rel w a b (valued h) = absurd h
 not-rel w a b (terms {t} {u} h) = making-rel w (neg (term t)) (neg (term u)) (ap (λ (x : Tree). neg (term x)) (h .reads))
 
 operator-rel :
-    (w : pooled .World) (o : Op) (a b : Value (pooled .Term)) (a′ b′ : Value (trees length .Term))
-    → Values asTrees w a a′ → Values asTrees w b b′ → Acts asTrees (Values asTrees) w (combine pooled o a b) (combine (trees length) o a′ b′)
+    (w : pooled .World) (o : Op) (a b : Value (pooled .Term)) (a′ b′ : Value (trees counted .Term))
+    → Values asTrees w a a′ → Values asTrees w b b′ → Acts asTrees (Values asTrees) w (combine pooled o a b) (combine (trees counted) o a′ b′)
 unfolding asTrees combine pooled readNode readValue
 operator-rel w o a b a′ b′ consts consts = give-rel _ _ consts
-operator-rel w o a b a′ b′ (consts {c}) (terms {t} {u} k) = making-rel w (bin o (const c) (term t)) (bin o (const c) (term u)) (ap (λ (x : Tree). bin o (const c) (term x)) (k .reads))
-operator-rel w o a b a′ b′ (terms {t} {u} h) (consts {c}) = making-rel w (bin o (term t) (const c)) (bin o (term u) (const c)) (ap (λ (x : Tree). bin o (term x) (const c)) (h .reads))
+operator-rel w o a b a′ b′ (consts {c}) (terms {t} {u} k) =
+    making-rel w (bin o (const c) (term t)) (bin o (const c) (term u)) (ap (λ (x : Tree). bin o (const c) (term x)) (k .reads))
+operator-rel w o a b a′ b′ (terms {t} {u} h) (consts {c}) =
+    making-rel w (bin o (term t) (const c)) (bin o (term u) (const c)) (ap (λ (x : Tree). bin o (term x) (const c)) (h .reads))
 operator-rel w o a b a′ b′ (terms {t = r} {u = x} h) (terms {t = s} {u = y} k) =
     making-rel w (bin o (term r) (term s)) (bin o (term x) (term y)) (ap₂ (λ (x y : Tree). bin o (term x) (term y)) (h .reads) (k .reads))
 operator-rel w o a b a′ b′ consts (valued k) = absurd k
@@ -192,7 +203,9 @@ module _ (inputs : List ℕ) where
   unfolding poolValues treesOf
   pool-values w = from-values [] w
 
-  pub same-value : (w : Pool) (a : Value Ref) (b : Value Tree) → (unfold pooled in Values asTrees w a b) → valueOf (poolValues inputs w) a ≡ treeValue inputs b
+  pub same-value :
+      (w : Pool) (a : Value Ref) (b : Value Tree) → (unfold pooled in Values asTrees w a b)
+      → valueOf (poolValues inputs w) a ≡ treeValue inputs b
   unfolding asTrees pooled valueOf treeValue nothing workNot truthIn valueIn operandIn
   same-value w a b consts = refl
   same-value w a b (valued h) = absurd h

@@ -1,26 +1,24 @@
 -- Demand 3 over the pool: its rows read as the trees' rows, command by command, so they account for what those do. Assumes nothing.
-use Prim.Native.Nat.{ℕ, zero, suc, _*_, _≤_}
+use Prim.Native.Nat.{ℕ, suc, _*_, _≤_}
 use mathlib.Core.Bool.{Bool, true, false, _&&_}
-use mathlib.Core.Path.{_≡_, refl, sym, ap, ap₂, _∙_, subst}
+use mathlib.Core.Path.{_≡_, refl, sym, ap, _∙_, subst}
 use mathlib.Core.List.{List, [], _∷_, _++_, map, append-nil}
-use lib.ListN.{length}
 use native.Mathlib.Omega.{arith}
 use native.Mathlib.Nat.{suc-inj}
 use Rattle.gil.specs.Names.{Program}
-use Rattle.gil.specs.Values.{Constant, truthIn, sameTruth, Value, term}
+use Rattle.gil.specs.Values.{Constant, truthIn, sameTruth, term}
 use Rattle.gil.specs.Machine.{Model, Val}
 use Rattle.gil.specs.Rows.{Condition, Path, Row, rowOf, cutFor, steps}
 use Rattle.gil.specs.Plain.{plainRun}
-use Rattle.gil.specs.Explore.{Exploring, Explored, explored, waitingOn, afterCommands, explore}
+use Rattle.gil.specs.Explore.{Exploring, explored, waitingOn, afterCommands}
 use Rattle.gil.specs.Explore as Explore
 use Rattle.gil.specs.Pool.{Ref, Pool, pooled, table, valueOf, poolValues, meets, placeAmong, placed}
-use Rattle.gil.specs.Accounts.{Stands, here, further, putIn, Accounted}
+use Rattle.gil.specs.Accounts.{Stands, here, further, Accounted, Accounts, explorationAfter}
 use Rattle.gil.specs.Theory.Trees.{Tree, trees, treeValue}
 use Rattle.gil.specs.Theory.Relation.{Each, nil, cons, each-append, Relation, Values}
 use Rattle.gil.specs.Theory.Together.{Conditions, path, RowsOf, row, Explorings, exploring, cuts-rel, commands-rel}
 use Rattle.gil.specs.Theory.PutIn.{holds, holds-rel, put-row}
-use Rattle.gil.specs.Theory.Counting.{no-false}
-use Rattle.gil.specs.Theory.PoolTree.{asTrees, asTrees-step, treesOf, treesFrom, same-value}
+use Rattle.gil.specs.Theory.PoolTree.{counted, asTrees, asTrees-step, treesOf, treesFrom, same-value}
 use Rattle.gil.specs.Theory.Exactly.{tree-accounted}
 use Rattle.gil.specs.Theory.Ends.{ends-in, chosen}
 
@@ -42,7 +40,8 @@ module _ {A B : Type 0} {Q : A → B → Type 0} where
 -- rows account for a run if rows related to them do
 module _
     {M N : Model} {R : Relation M N} {w : M .World} (f : Val M → Constant) (g : Val N → Constant)
-    (agree : (a : Val M) (b : Val N) → Values R w a b → f a ≡ g b) (m : List (Condition (M .Term)) → Bool) (m′ : List (Condition (N .Term)) → Bool)
+    (agree : (a : Val M) (b : Val N) → Values R w a b → f a ≡ g b) (m : List (Condition (M .Term)) → Bool)
+    (m′ : List (Condition (N .Term)) → Bool)
     (same : (cs : List (Condition (M .Term))) (cs′ : List (Condition (N .Term))) → Each (Conditions R w) cs cs′ → m cs ≡ m′ cs′)
   where
     row-met : {r : Row (M .Term)} {r′ : Row (N .Term)} → RowsOf R w r r′ → m (r .conditions) ≡ m′ (r′ .conditions)
@@ -53,7 +52,9 @@ module _
     unfolding rowOf
     row-steps (row n o q) = refl
 
-    accounted-rel : (run : ℕ → Row ⊥) {rs : List (Row (M .Term))} {rs′ : List (Row (N .Term))} → Each (RowsOf R w) rs rs′ → Accounted m′ g run rs′ → Accounted m f run rs
+    accounted-rel :
+        (run : ℕ → Row ⊥) {rs : List (Row (M .Term))} {rs′ : List (Row (N .Term))} → Each (RowsOf R w) rs rs′ → Accounted m′ g run rs′
+        → Accounted m f run rs
     accounted-rel run {rs} {rs′} h a =
         let b = beside (each-back h) (a .stands) in
         record {
@@ -70,38 +71,42 @@ unfolding meets holds
 meets-holds vs [] = refl
 meets-holds vs (c ∷ cs) = ap (λ (b : Bool). sameTruth (c .truth) (truthIn (valueOf vs (term (c .term)))) && b) (meets-holds vs cs)
 
--- what it is for rows of the pool to account for inputs
-abbrev Accounts : Program → List ℕ → Pool → List (Row Ref) → Type 0
-Accounts p inputs w rows = Accounted (meets (poolValues inputs w)) (valueOf (poolValues inputs w)) (plainRun p inputs) rows
-
 beside-trees :
-    (p : Program) (budget most : ℕ) (inputs : List ℕ) (n : ℕ) (w : Pool) (rs : List (Row Ref)) (qs : List (Path Ref)) (y : Exploring (List Tree) Tree)
-    → afterCommands (trees length) p budget most [] n ≡ y → (unfold pooled in Explorings asTrees (Explore.exploring w rs qs) y)
+    (p : Program) (budget most : ℕ) (inputs : List ℕ) (n : ℕ) (w : Pool) (rs : List (Row Ref)) (qs : List (Path Ref))
+    (y : Exploring (List Tree) Tree)
+    → afterCommands (trees counted) p budget most [] n ≡ y → (unfold pooled in Explorings asTrees (Explore.exploring w rs qs) y)
     → Accounts p inputs w (rs ++ map (cutFor steps) qs)
 unfolding pooled
 beside-trees p budget most inputs n w rs qs y e (exploring {v} {rs′} {qs′} k hs ps) =
-    accounted-rel (valueOf (poolValues inputs w)) (treeValue inputs) (same-value inputs w) (meets (poolValues inputs w)) (holds (treeValue inputs))
-    (λ cs cs′ h. meets-holds (poolValues inputs w) cs ∙ holds-rel (valueOf (poolValues inputs w)) (treeValue inputs) (same-value inputs w) h)
-    (plainRun p inputs) (each-append hs (cuts-rel asTrees steps ps)) (tree-accounted length p inputs budget most [] n v rs′ qs′ e)
+    let vs = poolValues inputs w in
+    accounted-rel (valueOf vs) (treeValue inputs) (same-value inputs w) (meets vs) (holds (treeValue inputs))
+    (λ cs cs′ h. meets-holds vs cs ∙ holds-rel (valueOf vs) (treeValue inputs) (same-value inputs w) h)
+    (plainRun p inputs) (each-append hs (cuts-rel asTrees steps ps)) (tree-accounted counted p inputs budget most [] n v rs′ qs′ e)
 
 pub commands-accounted :
     (p : Program) (budget most : ℕ) (inputs : List ℕ) (n : ℕ) (w : Pool) (rs : List (Row Ref)) (qs : List (Path Ref))
-    → (unfold pooled in afterCommands pooled p budget most [] n ≡ Explore.exploring w rs qs) → Accounts p inputs w (rs ++ map (cutFor steps) qs)
-unfolding pooled asTrees treesOf treesFrom
+    → explorationAfter p budget most n ≡ Explore.exploring w rs qs → Accounts p inputs w (rs ++ map (cutFor steps) qs)
+unfolding explorationAfter pooled asTrees treesOf treesFrom
 commands-accounted p budget most inputs n w rs qs e =
-    beside-trees p budget most inputs n w rs qs _ refl (subst (λ x. Explorings asTrees x (afterCommands (trees length) p budget most [] n)) e (commands-rel asTrees-step p budget most [] [] refl n))
+    beside-trees p budget most inputs n w rs qs _ refl
+    (subst (λ x. Explorings asTrees x (afterCommands (trees counted) p budget most [] n)) e (commands-rel asTrees-step p budget most [] [] refl n))
 
 -- the table is what the commands come to
-pub commands-table : (p : Program) (budget most : ℕ) (n : ℕ) → 65 * suc budget ≤ n → unfold pooled in afterCommands pooled p budget most [] n ≡ waitingOn [] (table p budget most)
-unfolding pooled table
+pub commands-table :
+    (p : Program) (budget most : ℕ) (n : ℕ) → 65 * suc budget ≤ n
+    → explorationAfter p budget most n ≡ waitingOn [] (table p budget most)
+unfolding explorationAfter pooled table
 commands-table p budget most n h = ends-in pooled p budget most [] n h
 
-pub table-accounted : (p : Program) (budget most : ℕ) (inputs : List ℕ) (w : Pool) (rs : List (Row Ref)) → table p budget most ≡ explored w rs → Accounts p inputs w rs
-unfolding waitingOn pooled
+pub table-accounted :
+    (p : Program) (budget most : ℕ) (inputs : List ℕ) (w : Pool) (rs : List (Row Ref)) → table p budget most ≡ explored w rs
+    → Accounts p inputs w rs
+unfolding waitingOn
 table-accounted p budget most inputs w rs e =
     let n : ℕ = 65 * suc budget in
     let h : n ≤ n = omega arith in
-    subst (Accounts p inputs w) (append-nil rs) (commands-accounted p budget most inputs n w rs [] (commands-table p budget most n h ∙ ap (waitingOn []) e))
+    subst (Accounts p inputs w) (append-nil rs)
+    (commands-accounted p budget most inputs n w rs [] (commands-table p budget most n h ∙ ap (waitingOn []) e))
 
 -- the first row whose conditions hold is the only one
 first-place :
@@ -113,6 +118,7 @@ first-place vs (further {k} {b = r} {l} s) h only =
     chosen (λ n. n ≡ suc k) (meets vs (r .conditions)) (λ e. only 0 r here e)
     (λ e. ap suc (first-place vs s h (λ j t i x. suc-inj (only (suc j) t (further i) x))))
 
-pub placed-only : (p : Program) (inputs : List ℕ) (w : Pool) (rs : List (Row Ref)) (a : Accounts p inputs w rs) → placed inputs w rs ≡ a .place
+pub placed-only :
+    (p : Program) (inputs : List ℕ) (w : Pool) (rs : List (Row Ref)) (a : Accounts p inputs w rs) → placed inputs w rs ≡ a .place
 unfolding placed
 placed-only p inputs w rs a = first-place (poolValues inputs w) (a .stands) (a .met) (a .only)

@@ -1,12 +1,12 @@
 -- Related rows are the same row with inputs put in, and their conditions hold alike; a plain run's row is itself. Assumes nothing.
 use Prim.Native.Nat.{ℕ}
 use mathlib.Core.Bool.{Bool, true, _&&_}
-use mathlib.Core.Path.{_≡_, refl, ap, ap₂, _∙_}
+use mathlib.Core.Path.{_≡_, refl, ap, ap₂}
 use mathlib.Core.List.{List, [], _∷_, map}
 use mathlib.Core.Option.{Option, none, some}
 use Rattle.gil.specs.Values.{Constant, truthIn, sameTruth, Value, const, term}
 use Rattle.gil.specs.Machine.{Model, Cell, Store, State, End, returned, failed, vanished, error, Val}
-use Rattle.gil.specs.Rows.{Condition, Outcome, Path, Row, rowOf}
+use Rattle.gil.specs.Rows.{Condition, Outcome, Row, rowOf}
 use Rattle.gil.specs.Plain.{ran}
 use Rattle.gil.specs.Accounts.{putValue, putVariable, putCell, putEnd, putOutcome, putIn}
 use Rattle.gil.specs.Theory.Relation.{Each, nil, cons, Perhaps, unbound, bound, Relation, Values, Stores, Cells, cell, States, states, Ends}
@@ -27,7 +27,9 @@ withParts r o ρ cs =
       cells = cs;
     }
 
-parts : {T : Type 0} (r : Row T) {o o′ : Outcome T} {ρ ρ′ : Store T} {cs cs′ : List (Cell T)} → o ≡ o′ → ρ ≡ ρ′ → cs ≡ cs′ → withParts r o ρ cs ≡ withParts r o′ ρ′ cs′
+parts :
+    {T : Type 0} (r : Row T) {o o′ : Outcome T} {ρ ρ′ : Store T} {cs cs′ : List (Cell T)} → o ≡ o′ → ρ ≡ ρ′ → cs ≡ cs′
+    → withParts r o ρ cs ≡ withParts r o′ ρ′ cs′
 parts r a b c = λ j. withParts r (a j) (b j) (c j)
 
 -- conditions hold if each term has the truth it must have
@@ -35,56 +37,64 @@ unfoldable pub holds : {T : Type 0} → (Value T → Constant) → List (Conditi
 holds value [] = true
 holds value (c ∷ cs) = sameTruth (c .truth) (truthIn (value (term (c .term)))) && holds value cs
 
-module _ {M N : Model} {R : Relation M N} {w : M .World} (f : Val M → Constant) (g : Val N → Constant) (agree : (a : Val M) (b : Val N) → Values R w a b → f a ≡ g b) where
-  put-value : {a : Val M} {b : Val N} → Values R w a b → putValue f a ≡ putValue g b
-  unfolding putValue
-  put-value {a} {b} h = ap const (agree a b h)
+-- `f` and `g` value what is related alike
+module _
+    {M N : Model} {R : Relation M N} {w : M .World} (f : Val M → Constant) (g : Val N → Constant)
+    (agree : (a : Val M) (b : Val N) → Values R w a b → f a ≡ g b)
+  where
+    put-value : {a : Val M} {b : Val N} → Values R w a b → putValue f a ≡ putValue g b
+    unfolding putValue
+    put-value {a} {b} h = ap const (agree a b h)
 
-  put-variable : {a : Option (Val M)} {b : Option (Val N)} → Perhaps (Values R w) a b → putVariable f a ≡ putVariable g b
-  unfolding putVariable
-  put-variable unbound = refl
-  put-variable (bound h) = ap some (put-value h)
+    put-variable : {a : Option (Val M)} {b : Option (Val N)} → Perhaps (Values R w) a b → putVariable f a ≡ putVariable g b
+    unfolding putVariable
+    put-variable unbound = refl
+    put-variable (bound h) = ap some (put-value h)
 
-  put-store : {ρ : Store (M .Term)} {ρ′ : Store (N .Term)} → Stores R w ρ ρ′ → map (putVariable f) ρ ≡ map (putVariable g) ρ′
-  put-store nil = refl
-  put-store (cons h hs) = ap₂ {C = Store ⊥} (λ x xs. x ∷ xs) (put-variable h) (put-store hs)
+    put-store : {ρ : Store (M .Term)} {ρ′ : Store (N .Term)} → Stores R w ρ ρ′ → map (putVariable f) ρ ≡ map (putVariable g) ρ′
+    put-store nil = refl
+    put-store (cons h hs) = ap₂ {C = Store ⊥} (λ x xs. x ∷ xs) (put-variable h) (put-store hs)
 
-  put-cell : {c : Cell (M .Term)} {c′ : Cell (N .Term)} → Cells R w c c′ → putCell f c ≡ putCell g c′
-  unfolding putCell
-  put-cell (cell {l} {q} h) = ap {B = Cell ⊥} (λ v. record { location = l; property = q; value = v }) (put-value h)
+    put-cell : {c : Cell (M .Term)} {c′ : Cell (N .Term)} → Cells R w c c′ → putCell f c ≡ putCell g c′
+    unfolding putCell
+    put-cell (cell {l} {q} h) = ap {B = Cell ⊥} (λ v. record { location = l; property = q; value = v }) (put-value h)
 
-  put-cells : {cs : List (Cell (M .Term))} {cs′ : List (Cell (N .Term))} → Each (Cells R w) cs cs′ → map (putCell f) cs ≡ map (putCell g) cs′
-  put-cells nil = refl
-  put-cells (cons h hs) = ap₂ {C = List (Cell ⊥)} (λ x xs. x ∷ xs) (put-cell h) (put-cells hs)
+    put-cells :
+        {cs : List (Cell (M .Term))} {cs′ : List (Cell (N .Term))} → Each (Cells R w) cs cs′ → map (putCell f) cs ≡ map (putCell g) cs′
+    put-cells nil = refl
+    put-cells (cons h hs) = ap₂ {C = List (Cell ⊥)} (λ x xs. x ∷ xs) (put-cell h) (put-cells hs)
 
-  pub put-end : {e : End (M .Term)} {e′ : End (N .Term)} → Ends R w e e′ → putEnd f e ≡ putEnd g e′
-  unfolding putEnd
-  put-end (Relation.returned h) = ap returned (put-value h)
-  put-end (Relation.failed h) = ap failed (put-value h)
-  put-end Relation.vanished = refl
-  put-end Relation.error = refl
+    pub put-end : {e : End (M .Term)} {e′ : End (N .Term)} → Ends R w e e′ → putEnd f e ≡ putEnd g e′
+    unfolding putEnd
+    put-end (Relation.returned h) = ap returned (put-value h)
+    put-end (Relation.failed h) = ap failed (put-value h)
+    put-end Relation.vanished = refl
+    put-end Relation.error = refl
 
-  put-outcome : {o : Outcome (M .Term)} {o′ : Outcome (N .Term)} → Outcomes R w o o′ → putOutcome f o ≡ putOutcome g o′
-  unfolding putOutcome
-  put-outcome (ended h) = ap Rattle.gil.specs.Rows.ended (put-end h)
-  put-outcome cut = refl
+    put-outcome : {o : Outcome (M .Term)} {o′ : Outcome (N .Term)} → Outcomes R w o o′ → putOutcome f o ≡ putOutcome g o′
+    unfolding putOutcome
+    put-outcome (ended h) = ap Rattle.gil.specs.Rows.ended (put-end h)
+    put-outcome cut = refl
 
-  -- two paths that stand in related states, whatever their conditions
-  pub put-state :
-      (n : ℕ) (o : Outcome (M .Term)) (o′ : Outcome (N .Term)) (m m′ : ℕ) (ds : List (Condition (M .Term))) (ds′ : List (Condition (N .Term)))
-      {s : State (M .Term)} {s′ : State (N .Term)} → putOutcome f o ≡ putOutcome g o′ → States R w s s′
-      → putIn f (rowOf o n (record { state = s; steps = m; conditions = ds })) ≡ putIn g (rowOf o′ n (record { state = s′; steps = m′; conditions = ds′ }))
-  unfolding putIn rowOf withParts
-  put-state n o o′ m m′ ds ds′ e (states {c} {ρ} {ρs} {cs} h hs k) =
-      parts (putIn f (rowOf o n (record { state = record { control = c; variables = ρ; saved = ρs; cells = cs }; steps = m; conditions = ds }))) e (put-store h) (put-cells k)
+    -- two paths that stand in related states, whatever their conditions
+    pub put-state :
+        (n : ℕ) (o : Outcome (M .Term)) (o′ : Outcome (N .Term)) (m m′ : ℕ) (ds : List (Condition (M .Term)))
+        (ds′ : List (Condition (N .Term)))
+        {s : State (M .Term)} {s′ : State (N .Term)} → putOutcome f o ≡ putOutcome g o′ → States R w s s′
+        → putIn f (rowOf o n (record { state = s; steps = m; conditions = ds }))
+        ≡ putIn g (rowOf o′ n (record { state = s′; steps = m′; conditions = ds′ }))
+    unfolding putIn rowOf withParts
+    put-state n o o′ m m′ ds ds′ {s} e (states h hs k) =
+        parts (putIn f (rowOf o n (record { state = s; steps = m; conditions = ds }))) e (put-store h) (put-cells k)
 
-  pub put-row : {r : Row (M .Term)} {r′ : Row (N .Term)} → RowsOf R w r r′ → putIn f r ≡ putIn g r′
-  put-row (row {o} {o′} n h (path {n = m} {cs} {cs′} s c)) = put-state n o o′ m m cs cs′ (put-outcome h) s
+    pub put-row : {r : Row (M .Term)} {r′ : Row (N .Term)} → RowsOf R w r r′ → putIn f r ≡ putIn g r′
+    put-row (row {o} {o′} n h (path {n = m} {cs} {cs′} s c)) = put-state n o o′ m m cs cs′ (put-outcome h) s
 
-  pub holds-rel : {cs : List (Condition (M .Term))} {cs′ : List (Condition (N .Term))} → Each (Conditions R w) cs cs′ → holds f cs ≡ holds g cs′
-  unfolding holds
-  holds-rel nil = refl
-  holds-rel (cons (condition {b} h) hs) = ap₂ (λ x y. sameTruth b (truthIn x) && y) (agree _ _ (Relation.terms h)) (holds-rel hs)
+    pub holds-rel :
+        {cs : List (Condition (M .Term))} {cs′ : List (Condition (N .Term))} → Each (Conditions R w) cs cs′ → holds f cs ≡ holds g cs′
+    unfolding holds
+    holds-rel nil = refl
+    holds-rel (cons (condition {b} h) hs) = ap₂ (λ x y. sameTruth b (truthIn x) && y) (agree _ _ (Relation.terms h)) (holds-rel hs)
 
 -- in a plain run every value is a constant
 unfoldable pub plainly : Value ⊥ → Constant
@@ -105,7 +115,9 @@ plain-store (some v ∷ ρ) = ap₂ {C = Store ⊥} (λ x xs. some x ∷ xs) (pl
 plain-cells : (cs : List (Cell ⊥)) → map (putCell plainly) cs ≡ cs
 unfolding putCell
 plain-cells [] = refl
-plain-cells (c ∷ cs) = ap₂ {C = List (Cell ⊥)} (λ v xs. record { location = c .location; property = c .property; value = v } ∷ xs) (plain-value (c .value)) (plain-cells cs)
+plain-cells (c ∷ cs) =
+    ap₂ {C = List (Cell ⊥)} (λ v xs. record { location = c .location; property = c .property; value = v } ∷ xs)
+    (plain-value (c .value)) (plain-cells cs)
 
 pub plain-end : (e : End ⊥) → putEnd plainly e ≡ e
 unfolding putEnd
@@ -114,6 +126,7 @@ plain-end (failed v) = ap failed (plain-value v)
 plain-end vanished = refl
 plain-end (error n) = refl
 
-pub plain-row : (o : Outcome ⊥) (n m : ℕ) (s : State ⊥) → putOutcome plainly o ≡ o → putIn plainly (rowOf o n (ran m s)) ≡ rowOf o n (ran m s)
+pub plain-row :
+    (o : Outcome ⊥) (n m : ℕ) (s : State ⊥) → putOutcome plainly o ≡ o → putIn plainly (rowOf o n (ran m s)) ≡ rowOf o n (ran m s)
 unfolding putIn rowOf ran withParts
 plain-row o n m s e = parts (rowOf o n (ran m s)) e (plain-store (s .variables)) (plain-cells (s .cells))

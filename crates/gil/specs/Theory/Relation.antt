@@ -3,14 +3,14 @@
 -- Machine and of this file. Assumes nothing.
 use Prim.Native.Nat.{ℕ, zero, suc}
 use mathlib.Core.Bool.{Bool, true, false, _&&_, _||_}
-use mathlib.Core.Path.{_≡_, refl, sym, ap, _∙_, subst, subst⁻¹}
+use mathlib.Core.Path.{_≡_, refl, ap, subst, subst⁻¹}
 use mathlib.Core.List.{List, [], _∷_, _++_}
 use mathlib.Core.Option.{Option, none, some}
 use lib.ListN.{length, getD, set, replicate}
 use lib.Dec.{ltb, leb, eqb}
 use Rattle.gil.specs.Tree.{Op, Expr, num, bool, var, neg, bin, Cmd, assign, ifgoto, call, lookup, mutate, dispose, uSym, iSym, return, fail, vanish}
 use Rattle.gil.specs.Names.{Program}
-use Rattle.gil.specs.Values.{Constant, number, boolean, location, Sort, numbers, booleans, locations, sortOf, sameSort, Fit, right, wrong, unlike, fit, Value, const, term, input}
+use Rattle.gil.specs.Values.{Constant, number, boolean, location, Sort, numbers, booleans, sortOf, sameSort, Fit, right, wrong, unlike, fit, Value, const, term, input}
 use Rattle.gil.specs.Machine
 use Rattle.gil.specs.Machine.{Model, Caller, Control, Store, Cell, State, End, Next, on, ends, fork, Result, ok, err, Act, Val, Moved, making, combine, negated}
 
@@ -48,7 +48,8 @@ module _ {A B : Type 0} (R : A → B → Type 0) where
   each-replicate (suc n) r = cons r (each-replicate n r)
 
   -- a test that falls out the same on both sides
-  pub either : (t : Bool) {a a′ : A} {b b′ : B} → R a b → R a′ b′ → R (elim t [ true ↦ a | false ↦ a′ ]) (elim t [ true ↦ b | false ↦ b′ ])
+  pub either :
+      (t : Bool) {a a′ : A} {b b′ : B} → R a b → R a′ b′ → R (elim t [ true ↦ a | false ↦ a′ ]) (elim t [ true ↦ b | false ↦ b′ ])
   either true q r = q
   either false q r = r
 
@@ -80,15 +81,19 @@ module _ {M N : Model} (R : Relation M N) where
     terms : {t : M .Term} {u : N .Term} → R .Terms w t u → Values w (term t) (term u)
 
   pub data Cells (w : M .World) : Cell (M .Term) → Cell (N .Term) → Type 0 where
-    cell : {l q : ℕ} {a : Value (M .Term)} {b : Value (N .Term)} → Values w a b → Cells w (record { location = l; property = q; value = a }) (record { location = l; property = q; value = b })
+    cell :
+        {l q : ℕ} {a : Value (M .Term)} {b : Value (N .Term)} → Values w a b
+        → Cells w (record { location = l; property = q; value = a }) (record { location = l; property = q; value = b })
 
   abbrev pub Stores : M .World → Store (M .Term) → Store (N .Term) → Type 0
   Stores w = Each (Perhaps (Values w))
 
   pub data States (w : M .World) : State (M .Term) → State (N .Term) → Type 0 where
     states :
-        {c : Control} {ρ : Store (M .Term)} {ρ′ : Store (N .Term)} {ρs : List (Store (M .Term))} {ρs′ : List (Store (N .Term))} {cs : List (Cell (M .Term))} {cs′ : List (Cell (N .Term))}
-        → Stores w ρ ρ′ → Each (Stores w) ρs ρs′ → Each (Cells w) cs cs′ → States w (record { control = c; variables = ρ; saved = ρs; cells = cs }) (record { control = c; variables = ρ′; saved = ρs′; cells = cs′ })
+        {c : Control} {ρ : Store (M .Term)} {ρ′ : Store (N .Term)} {ρs : List (Store (M .Term))} {ρs′ : List (Store (N .Term))}
+        {cs : List (Cell (M .Term))} {cs′ : List (Cell (N .Term))}
+        → Stores w ρ ρ′ → Each (Stores w) ρs ρs′ → Each (Cells w) cs cs′
+        → States w (record { control = c; variables = ρ; saved = ρs; cells = cs }) (record { control = c; variables = ρ′; saved = ρs′; cells = cs′ })
 
   pub data Ends (w : M .World) : End (M .Term) → End (N .Term) → Type 0 where
     returned : {a : Value (M .Term)} {b : Value (N .Term)} → Values w a b → Ends w (Machine.returned a) (Machine.returned b)
@@ -103,8 +108,12 @@ module _ {M N : Model} (R : Relation M N) where
     forks :
         {t : M .Term} {u : N .Term} {a b : State (M .Term)} {a′ b′ : State (N .Term)}
         → R .Terms w t u → States w a a′ → States w b b′ → Nexts w (fork t a b) (fork u a′ b′)
-    isTrue : {t : M .Term} {a b : State (M .Term)} {s : State (N .Term)} → R .Valued w t (boolean true) → States w a s → Nexts w (fork t a b) (on s)
-    isFalse : {t : M .Term} {a b : State (M .Term)} {s : State (N .Term)} → R .Valued w t (boolean false) → States w b s → Nexts w (fork t a b) (on s)
+    isTrue :
+        {t : M .Term} {a b : State (M .Term)} {s : State (N .Term)} → R .Valued w t (boolean true) → States w a s
+        → Nexts w (fork t a b) (on s)
+    isFalse :
+        {t : M .Term} {a b : State (M .Term)} {s : State (N .Term)} → R .Valued w t (boolean false) → States w b s
+        → Nexts w (fork t a b) (on s)
 
   -- a later world: what was related stays related
   pub record Grows (w w′ : M .World) : Type 0 where
@@ -122,7 +131,9 @@ module _ {M N : Model} (R : Relation M N) where
     oks : {w′ : M .World} {v′ : N .World} {a : A} {b : B} → Grows w w′ → R .Worlds w′ v′ → Q w′ a b → Results Q w (ok w′ a) (ok v′ b)
     errs : {w′ : M .World} {v′ : N .World} {n : ℕ} → Grows w w′ → R .Worlds w′ v′ → Results Q w (err w′ n) (err v′ n)
 
-  abbrev pub Acts : {A B : Type 0} → (M .World → A → B → Type 0) → M .World → (M .World → Result (M .World) A) → (N .World → Result (N .World) B) → Type 0
+  abbrev pub Acts :
+      {A B : Type 0} → (M .World → A → B → Type 0) → M .World → (M .World → Result (M .World) A) → (N .World → Result (N .World) B)
+      → Type 0
   Acts Q w m m′ = (v : N .World) → R .Worlds w v → Results Q w (m w) (m′ v)
 
   pub record Moves (w : M .World) (m : Moved M) (m′ : Moved N) : Type 0 where
@@ -162,7 +173,8 @@ module _ {M N : Model} {R : Relation M N} {w w′ : M .World} (g : Grows R w w�
 
 -- actions in a row
 module _ {M N : Model} {R : Relation M N} {A B : Type 0} {Q : M .World → A → B → Type 0} where
-  later : {w w′ : M .World} {r : Result (M .World) A} {r′ : Result (N .World) B} → Grows R w w′ → Results R Q w′ r r′ → Results R Q w r r′
+  later :
+      {w w′ : M .World} {r : Result (M .World) A} {r′ : Result (N .World) B} → Grows R w w′ → Results R Q w′ r r′ → Results R Q w r r′
   later g (oks h k q) = oks (grows-on R g h) k q
   later g (errs h k) = errs (grows-on R g h) k
 
@@ -195,11 +207,13 @@ module _ {M N : Model} {R : Relation M N} {C D : Type 0} {P : M .World → C →
   checking :
       (n : ℕ) {w : M .World} (m : Act M C) (m′ : Act N D) {t t′ : Bool}
       → t ≡ t′ → Acts R P w m m′ → Acts R P w (Machine._>>_ (Machine.must t n) m) (Machine._>>_ (Machine.must t′ n) m′)
-  checking n {w} m m′ {t} e h = subst (λ (x : Bool). Acts R P w (Machine._>>_ (Machine.must t n) m) (Machine._>>_ (Machine.must x n) m′)) e (must-same t n w m m′ h)
+  checking n {w} m m′ {t} e h =
+      subst (λ (x : Bool). Acts R P w (Machine._>>_ (Machine.must t n) m) (Machine._>>_ (Machine.must x n) m′)) e (must-same t n w m m′ h)
 
   fetching :
       (n : ℕ) {A B : Type 0} {Q : A → B → Type 0} {w : M .World} {a : Option A} {b : Option B} (f : A → Act M C) (f′ : B → Act N D)
-      → Perhaps Q a b → ((x : A) (y : B) → Q x y → Acts R P w (f x) (f′ y)) → Acts R P w (Machine._>>=_ (Machine.there a n) f) (Machine._>>=_ (Machine.there b n) f′)
+      → Perhaps Q a b → ((x : A) (y : B) → Q x y → Acts R P w (f x) (f′ y))
+      → Acts R P w (Machine._>>=_ (Machine.there a n) f) (Machine._>>=_ (Machine.there b n) f′)
   unfolding Machine._>>=_ Machine.there Machine.andThen Machine.give Machine.stop
   fetching n f f′ unbound h = stop-rel n
   fetching n f f′ (bound {a} {b} q) h = h a b q
@@ -223,18 +237,23 @@ module _ {M N : Model} {R : Relation M N} (L : Laws R) where
       (o : Op) (w : M .World) (a b : Val M) (a′ b′ : Val N)
       → Values R w a a′ → Values R w b b′ → Acts R (Values R) w (Machine.operate M o a b) (Machine.operate N o a′ b′)
   unfolding Machine.operate
-  operate-rel o w a b a′ b′ q r = rw (sort-rel q, sort-rel r) (fitted-rel (fit o (Machine.sortIn N a′) (Machine.sortIn N b′)) o w a b a′ b′ q r)
+  operate-rel o w a b a′ b′ q r =
+      rw (sort-rel q, sort-rel r) (fitted-rel (fit o (Machine.sortIn N a′) (Machine.sortIn N b′)) o w a b a′ b′ q r)
 
   negate-rel : (w : M .World) (a : Val M) (b : Val N) → Values R w a b → Acts R (Values R) w (Machine.negate M a) (Machine.negate N b)
   unfolding Machine.negate
   negate-rel w a b q = checking 2 _ _ (ap (sameSort booleans) (sort-rel q)) (L .nots w a b q)
 
-  variable-rel : {w : M .World} {a : Option (Val M)} {b : Option (Val N)} (n : ℕ) → Perhaps (Values R w) a b → Acts R (Values R) w (Machine.there a n) (Machine.there b n)
+  variable-rel :
+      {w : M .World} {a : Option (Val M)} {b : Option (Val N)} (n : ℕ) → Perhaps (Values R w) a b
+      → Acts R (Values R) w (Machine.there a n) (Machine.there b n)
   unfolding Machine.there
   variable-rel n unbound = stop-rel n
   variable-rel n (bound q) = give-rel _ _ q
 
-  pub eval-rel : (e : Expr ℕ) (w : M .World) (ρ : Store (M .Term)) (ρ′ : Store (N .Term)) → Stores R w ρ ρ′ → Acts R (Values R) w (Machine.eval M ρ e) (Machine.eval N ρ′ e)
+  pub eval-rel :
+      (e : Expr ℕ) (w : M .World) (ρ : Store (M .Term)) (ρ′ : Store (N .Term)) → Stores R w ρ ρ′
+      → Acts R (Values R) w (Machine.eval M ρ e) (Machine.eval N ρ′ e)
   unfolding Machine.eval Machine._>>=_
   eval-rel (num n) w ρ ρ′ h = give-rel _ _ consts
   eval-rel (bool b) w ρ ρ′ h = give-rel _ _ consts
@@ -296,7 +315,8 @@ module _ {M N : Model} {R : Relation M N} {w : M .World} where
       → Each (Cells R w) cs cs′ → Each (Cells R w) (Machine.withoutCells l cs) (Machine.withoutCells l cs′)
   unfolding Machine.withoutCells
   withoutCells-rel l nil = nil
-  withoutCells-rel l (cons (cell {l = k} h) hs) = either (Each (Cells R w)) (eqb l k) (withoutCells-rel l hs) (cons (cell h) (withoutCells-rel l hs))
+  withoutCells-rel l (cons (cell {l = k} h) hs) =
+      either (Each (Cells R w)) (eqb l k) (withoutCells-rel l hs) (cons (cell h) (withoutCells-rel l hs))
 
   frame-rel : (n : ℕ) {a : Val M} {b : Val N} → Values R w a b → Stores R w (Machine.frame n a) (Machine.frame n b)
   unfolding Machine.frame
@@ -306,7 +326,9 @@ module _ {M N : Model} {R : Relation M N} {w : M .World} where
   unfolding Machine.start
   start-rel p = states (frame-rel _ consts) nil nil
 
-  steer-rel : (f : Control → Control) {s : State (M .Term)} {s′ : State (N .Term)} → States R w s s′ → States R w (Machine.steer f s) (Machine.steer f s′)
+  steer-rel :
+      (f : Control → Control) {s : State (M .Term)} {s′ : State (N .Term)} → States R w s s′
+      → States R w (Machine.steer f s) (Machine.steer f s′)
   unfolding Machine.steer
   steer-rel f (states ρ ρs cs) = states ρ ρs cs
 
@@ -328,12 +350,16 @@ module _ {M N : Model} {R : Relation M N} {w : M .World} where
   unfolding Machine.opened
   opened-rel p x f v (states ρ ρs cs) = states (frame-rel _ v) (cons ρ ρs) cs
 
-  top-rel : {ρs : List (Store (M .Term))} {ρs′ : List (Store (N .Term))} → Each (Stores R w) ρs ρs′ → Stores R w (Machine.topStore ρs) (Machine.topStore ρs′)
+  top-rel :
+      {ρs : List (Store (M .Term))} {ρs′ : List (Store (N .Term))} → Each (Stores R w) ρs ρs′
+      → Stores R w (Machine.topStore ρs) (Machine.topStore ρs′)
   unfolding Machine.topStore
   top-rel nil = nil
   top-rel (cons ρ ρs) = ρ
 
-  below-rel : {ρs : List (Store (M .Term))} {ρs′ : List (Store (N .Term))} → Each (Stores R w) ρs ρs′ → Each (Stores R w) (Machine.belowTop ρs) (Machine.belowTop ρs′)
+  below-rel :
+      {ρs : List (Store (M .Term))} {ρs′ : List (Store (N .Term))} → Each (Stores R w) ρs ρs′
+      → Each (Stores R w) (Machine.belowTop ρs) (Machine.belowTop ρs′)
   unfolding Machine.belowTop
   below-rel nil = nil
   below-rel (cons ρ ρs) = ρs
@@ -343,7 +369,8 @@ module _ {M N : Model} {R : Relation M N} {w : M .World} where
       → Values R w a b → States R w s s′ → Nexts R w (Machine.returnsTo ks a s) (Machine.returnsTo ks b s′)
   unfolding Machine.returnsTo Machine.closed
   returnsTo-rel [] v s = stops (returned v)
-  returnsTo-rel (k ∷ ks) v (states ρ ρs cs) = goes (states (each-set (Perhaps (Values R w)) (k .target) (top-rel ρs) (bound v)) (below-rel ρs) cs)
+  returnsTo-rel (k ∷ ks) v (states ρ ρs cs) =
+      goes (states (each-set (Perhaps (Values R w)) (k .target) (top-rel ρs) (bound v)) (below-rel ρs) cs)
 
 -- every command
 module _ {M N : Model} {R : Relation M N} (L : Laws R) where
@@ -363,14 +390,16 @@ module _ {M N : Model} {R : Relation M N} (L : Laws R) where
   jump-rel n w a b s s′ (consts {c = boolean true}) h = give-rel _ _ (goes (steer-rel (Machine.goto n) h))
   jump-rel n w a b s s′ (consts {c = boolean false}) h = give-rel _ _ (goes (steer-rel Machine.onward h))
   jump-rel n w a b s s′ (consts {c = location l}) h = stop-rel 2
-  jump-rel n w a b s s′ (valued {t} {c = number k} q) h = λ v i. forking-rel w t _ _ _ numbers (L .valued-sort w t (number k) q) (errs (grows-not R) i)
+  jump-rel n w a b s s′ (valued {t} {c = number k} q) h = λ v i.
+      forking-rel w t _ _ _ numbers (L .valued-sort w t (number k) q) (errs (grows-not R) i)
   jump-rel n w a b s s′ (valued {t} {c = boolean true} q) h = λ v i.
       forking-rel w t _ _ _ booleans (L .valued-sort w t (boolean true) q) (oks (grows-not R) i (isTrue q (steer-rel (Machine.goto n) h)))
   jump-rel n w a b s s′ (valued {t} {c = boolean false} q) h = λ v i.
       forking-rel w t _ _ _ booleans (L .valued-sort w t (boolean false) q) (oks (grows-not R) i (isFalse q (steer-rel Machine.onward h)))
   jump-rel n w a b s s′ (valued {t} {c = location l} q) h = λ v i. absurd (L .no-location w t l q)
   jump-rel n w a b s s′ (terms {t} {u} q) h =
-      checking 2 _ _ (ap (sameSort booleans) (L .terms-sort w t u q)) (give-rel _ _ (forks q (steer-rel (Machine.goto n) h) (steer-rel Machine.onward h)))
+      checking 2 _ _ (ap (sameSort booleans) (L .terms-sort w t u q)) (
+      give-rel _ _ (forks q (steer-rel (Machine.goto n) h) (steer-rel Machine.onward h)))
 
   exec-rel :
       (p : Program) (d : Cmd ℕ) (w : M .World) (s : State (M .Term)) (s′ : State (N .Term))
@@ -417,7 +446,9 @@ module _ {M N : Model} {R : Relation M N} (L : Laws R) where
       give-rel _ _ (stops (failed v)))
   exec-rel p vanish w s s′ h = give-rel _ _ (stops vanished)
 
-  settled-rel : (w : M .World) {r : Result (M .World) (Next (M .Term))} {r′ : Result (N .World) (Next (N .Term))} → Results R (Nexts R) w r r′ → Moves R w (Machine.settled M r) (Machine.settled N r′)
+  settled-rel :
+      (w : M .World) {r : Result (M .World) (Next (M .Term))} {r′ : Result (N .World) (Next (N .Term))} → Results R (Nexts R) w r r′
+      → Moves R w (Machine.settled M r) (Machine.settled N r′)
   unfolding Machine.settled
   settled-rel w (oks g k q) = record { grows = g; worlds = k; nexts = q }
   settled-rel w (errs g k) = record { grows = g; worlds = k; nexts = stops error }

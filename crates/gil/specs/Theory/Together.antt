@@ -1,25 +1,26 @@
 -- Two explorations side by side: over related models that make terms in step and know no more of a truth than each other, every command
 -- of the one goes with the same command of the other. Assumes nothing.
 use Prim.Native.Nat.{ℕ, zero, suc}
-use mathlib.Core.Bool.{Bool, true, false}
-use mathlib.Core.Path.{_≡_, refl, ap}
-use mathlib.Core.List.{List, [], _∷_, _++_, map}
-use lib.ListN.{length}
+use mathlib.Core.Bool.{Bool}
+use mathlib.Core.Path.{_≡_, ap}
+use mathlib.Core.List.{List, map}
 use lib.Dec.{ltb, leb}
 use Rattle.gil.specs.Names.{Program}
 use Rattle.gil.specs.Values.{Constant}
-use Rattle.gil.specs.Machine.{Model, Cell, Store, State, End, Next, Moved, move}
+use Rattle.gil.specs.Machine.{Model, State, End, Next, Moved}
 use Rattle.gil.specs.Rows.{Condition, Reason, Outcome, Path, Row, rowOf, cutFor}
 use Rattle.gil.specs.Rows as Rows
 use Rattle.gil.specs.Explore.{Turn, Exploring, stepped, branched, turned, finish, waitingOn, onTurn, overfull, turnIn, afterMove, advance, begin, afterCommands}
 use Rattle.gil.specs.Explore as Explore
-use Rattle.gil.specs.Theory.Relation.{Each, nil, cons, each-length, each-append, each-map, either, either-of, Relation, Laws, Stores, Cells, States, Ends, Nexts, Grows, Moves, grow-store, grow-cells, grow-value, grow-state, move-rel, start-rel}
+use Rattle.gil.specs.Theory.Relation.{Each, nil, cons, each-length, each-append, each-map, either, either-of, Relation, Laws, States, Ends, Nexts, Grows, Moves, grow-value, grow-state, move-rel, start-rel}
 use Rattle.gil.specs.Theory.Relation as Relation
 
 -- conditions, paths and rows, related part by part
 module _ {M N : Model} (R : Relation M N) where
   pub data Conditions (w : M .World) : Condition (M .Term) → Condition (N .Term) → Type 0 where
-    condition : {t : M .Term} {u : N .Term} {b : Bool} → R .Terms w t u → Conditions w (record { term = t; truth = b }) (record { term = u; truth = b })
+    condition :
+        {t : M .Term} {u : N .Term} {b : Bool} → R .Terms w t u
+        → Conditions w (record { term = t; truth = b }) (record { term = u; truth = b })
 
   pub data Outcomes (w : M .World) : Outcome (M .Term) → Outcome (N .Term) → Type 0 where
     ended : {e : End (M .Term)} {e′ : End (N .Term)} → Ends R w e e′ → Outcomes w (Rows.ended e) (Rows.ended e′)
@@ -40,12 +41,15 @@ module _ {M N : Model} (R : Relation M N) where
   pub data Turns (w : M .World) : Turn (M .Term) → Turn (N .Term) → Type 0 where
     finishes : {r : Row (M .Term)} {r′ : Row (N .Term)} → RowsOf w r r′ → Turns w (Explore.finishes r) (Explore.finishes r′)
     goes : {q : Path (M .Term)} {q′ : Path (N .Term)} → Paths w q q′ → Turns w (Explore.goes q) (Explore.goes q′)
-    forks : {a b : Path (M .Term)} {a′ b′ : Path (N .Term)} → Paths w a a′ → Paths w b b′ → Turns w (Explore.forks a b) (Explore.forks a′ b′)
+    forks :
+        {a b : Path (M .Term)} {a′ b′ : Path (N .Term)} → Paths w a a′ → Paths w b b′
+        → Turns w (Explore.forks a b) (Explore.forks a′ b′)
 
   pub data Explorings : Exploring (M .World) (M .Term) → Exploring (N .World) (N .Term) → Type 0 where
     stopped : {n : ℕ} → Explorings (Explore.stopped n) (Explore.stopped n)
     exploring :
-        {w : M .World} {v : N .World} {rs : List (Row (M .Term))} {rs′ : List (Row (N .Term))} {qs : List (Path (M .Term))} {qs′ : List (Path (N .Term))}
+        {w : M .World} {v : N .World} {rs : List (Row (M .Term))} {rs′ : List (Row (N .Term))} {qs : List (Path (M .Term))}
+        {qs′ : List (Path (N .Term))}
         → R .Worlds w v → Each (RowsOf w) rs rs′ → Each (Paths w) qs qs′ → Explorings (Explore.exploring w rs qs) (Explore.exploring v rs′ qs′)
 
 -- in step: the same number of terms made, and no truth known on one side only
@@ -58,7 +62,9 @@ module _ {M N : Model} {R : Relation M N} {w w′ : M .World} (g : Grows R w w�
   grow-condition : (c : Condition (M .Term)) (c′ : Condition (N .Term)) → Conditions R w c c′ → Conditions R w′ c c′
   grow-condition c c′ (condition {t} {u} h) = condition (g .keeps t u h)
 
-  grow-conditions : {cs : List (Condition (M .Term))} {cs′ : List (Condition (N .Term))} → Each (Conditions R w) cs cs′ → Each (Conditions R w′) cs cs′
+  grow-conditions :
+      {cs : List (Condition (M .Term))} {cs′ : List (Condition (N .Term))} → Each (Conditions R w) cs cs′
+      → Each (Conditions R w′) cs cs′
   grow-conditions {cs} {cs′} = each-map grow-condition cs cs′
 
   grow-end : {e : End (M .Term)} {e′ : End (N .Term)} → Ends R w e e′ → Ends R w′ e e′
@@ -95,15 +101,18 @@ module _ {M N : Model} (R : Relation M N) {w : M .World} where
   branched-rel b h s (path s₀ cs) = path s (each-append cs (cons (condition h) nil))
 
   finish-rel :
-      {v : N .World} {rs : List (Row (M .Term))} {rs′ : List (Row (N .Term))} {r : Row (M .Term)} {r′ : Row (N .Term)} {qs : List (Path (M .Term))} {qs′ : List (Path (N .Term))}
+      {v : N .World} {rs : List (Row (M .Term))} {rs′ : List (Row (N .Term))} {r : Row (M .Term)} {r′ : Row (N .Term)}
+      {qs : List (Path (M .Term))} {qs′ : List (Path (N .Term))}
       → R .Worlds w v → Each (RowsOf R w) rs rs′ → RowsOf R w r r′ → Each (Paths R w) qs qs′
       → Explorings R (waitingOn qs (finish w rs r)) (waitingOn qs′ (finish v rs′ r′))
   unfolding waitingOn finish
   finish-rel {qs} {qs′} k rs r ps =
-      either-of (λ x y. Explorings R (waitingOn qs x) (waitingOn qs′ y)) (ap (leb 64) (each-length rs)) stopped (exploring k (each-append rs (cons r nil)) ps)
+      either-of (λ x y. Explorings R (waitingOn qs x) (waitingOn qs′ y)) (ap (leb 64) (each-length rs))
+      stopped (exploring k (each-append rs (cons r nil)) ps)
 
   turn-rel :
-      {v : N .World} {rs : List (Row (M .Term))} {rs′ : List (Row (N .Term))} {x : Turn (M .Term)} {x′ : Turn (N .Term)} {qs : List (Path (M .Term))} {qs′ : List (Path (N .Term))}
+      {v : N .World} {rs : List (Row (M .Term))} {rs′ : List (Row (N .Term))} {x : Turn (M .Term)} {x′ : Turn (N .Term)}
+      {qs : List (Path (M .Term))} {qs′ : List (Path (N .Term))}
       → R .Worlds w v → Each (RowsOf R w) rs rs′ → Turns R w x x′ → Each (Paths R w) qs qs′
       → Explorings R (onTurn w rs qs x) (onTurn v rs′ qs′ x′)
   unfolding onTurn
@@ -125,7 +134,8 @@ module _ {M N : Model} {R : Relation M N} (I : InStep R) (p : Program) where
   turned-rel most w q (Relation.isFalse {t} h a) = absurd (I .unknown w t _ h)
 
   afterMove-rel :
-      (most : ℕ) {w : M .World} {m : Moved M} {m′ : Moved N} {rs : List (Row (M .Term))} {rs′ : List (Row (N .Term))} {q : Path (M .Term)} {q′ : Path (N .Term)} {qs : List (Path (M .Term))} {qs′ : List (Path (N .Term))}
+      (most : ℕ) {w : M .World} {m : Moved M} {m′ : Moved N} {rs : List (Row (M .Term))} {rs′ : List (Row (N .Term))}
+      {q : Path (M .Term)} {q′ : Path (N .Term)} {qs : List (Path (M .Term))} {qs′ : List (Path (N .Term))}
       → Moves R w m m′ → Each (RowsOf R w) rs rs′ → Paths R w q q′ → Each (Paths R w) qs qs′
       → Explorings R (afterMove M p most rs q qs m) (afterMove N p most rs′ q′ qs′ m′)
   unfolding afterMove overfull turnIn

@@ -7,14 +7,14 @@ use mathlib.Core.List.{List, []}
 use Rattle.gil.specs.Tree.{Op}
 use Rattle.gil.specs.Names.{Program}
 use Rattle.gil.specs.Values.{Constant, boolean, sortOf, work, workNot, Value}
-use Rattle.gil.specs.Machine.{Model, State, End, Next, on, ends, fork, Moved, move, start, making, combine, negated, give}
+use Rattle.gil.specs.Machine.{State, End, Next, on, ends, fork, move, start, making, combine, negated, give}
 use Rattle.gil.specs.Rows.{Condition, Outcome, rowOf}
 use Rattle.gil.specs.Plain.{plain, known, ran}
 use Rattle.gil.specs.Accounts.{putEnd, putOutcome, putIn}
 use Rattle.gil.specs.Theory.Trees
 use Rattle.gil.specs.Theory.Trees.{Tree, trees, valueIn, treeValue, value-sort, value-place}
 use Rattle.gil.specs.Theory.Relation
-use Rattle.gil.specs.Theory.Relation.{Relation, Laws, Values, consts, valued, terms, States, Nexts, Acts, oks, Grows, Moves, grow-state, give-rel, start-rel, move-rel}
+use Rattle.gil.specs.Theory.Relation.{Relation, Laws, Values, consts, valued, terms, States, Nexts, Acts, oks, Grows, grow-state, give-rel, start-rel, move-rel}
 use Rattle.gil.specs.Theory.PutIn.{put-end, put-state, plainly, plain-end, plain-row}
 
 module _ (count : List Tree → ℕ) (inputs : List ℕ) where
@@ -60,7 +60,8 @@ module _ (count : List Tree → ℕ) (inputs : List ℕ) where
         operators = operator-rel;
       }
 
-  pub same-value : (w : List Tree) (a : Value Tree) (b : Value ⊥) → (unfold plain in Values onInputs w a b) → treeValue inputs a ≡ plainly b
+  pub same-value :
+      (w : List Tree) (a : Value Tree) (b : Value ⊥) → (unfold plain in Values onInputs w a b) → treeValue inputs a ≡ plainly b
   unfolding onInputs plain treeValue plainly
   same-value w a b consts = refl
   same-value w a b (valued h) = h
@@ -94,7 +95,9 @@ module _ (count : List Tree → ℕ) (inputs : List ℕ) where
   followed w (Relation.isTrue h a) = isTrue h (grow-state (still w []) a)
   followed w (Relation.isFalse h b) = isFalse h (grow-state (still w []) b)
 
-  pub follow : (p : Program) (w : List Tree) (s : State Tree) (s′ : State ⊥) → Alike s s′ → Follows (move (trees count) p w s .next) (plainNext p s′)
+  pub follow :
+      (p : Program) (w : List Tree) (s : State Tree) (s′ : State ⊥) → Alike s s′
+      → Follows (move (trees count) p w s .next) (plainNext p s′)
   unfolding Alike onInputs plain plainNext
   follow p w s s′ h =
       let m = move-rel onInputs-laws p w tt s s′ tt (grow-state (still [] w) h) in

@@ -7,7 +7,7 @@ use mathlib.Core.Path.{_≡_, refl, sym, subst⁻¹}
 use mathlib.Core.List.{List, [], _∷_, _++_}
 use lib.ListN.{getD}
 use Rattle.gil.specs.Tree.{Op, plus, minus, equal, less, and, or}
-use Rattle.gil.specs.Values.{Constant, number, boolean, location, Sort, numbers, booleans, locations, sortOf, work, workNot, Value, const, term, Node, opGivesNumber}
+use Rattle.gil.specs.Values.{Constant, number, boolean, location, Sort, numbers, booleans, sortOf, work, workNot, Value, const, term, Node, opGivesNumber}
 use Rattle.gil.specs.Values as Values
 use Rattle.gil.specs.Machine.{Model}
 
