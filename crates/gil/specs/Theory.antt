@@ -1,4 +1,5 @@
 -- Demand 3 proved over the definitions; Demand3 holds the statements. Assumes nothing.
+pub mod Tests
 pub mod Trees
 pub mod Relation
 pub mod Together

@@ -1,12 +1,12 @@
 -- How many of a list pass a test, and the one that does where it is one. Assumes nothing.
 use Prim.Native.Nat.{ℕ, suc, _+_}
 use mathlib.Core.Bool.{Bool, true, false, _&&_}
-use mathlib.Core.Path.{_≡_, refl, sym, ap, _∙_, subst}
+use mathlib.Core.Path.{_≡_, refl, ap, subst}
 use mathlib.Core.List.{List, [], _∷_, _++_}
-use lib.Dec.{T}
 use native.Mathlib.Omega.{arith}
 use Rattle.gil.specs.Values.{sameTruth}
 use Rattle.gil.specs.Accounts.{Stands, here, further}
+use Rattle.gil.specs.Theory.Tests.{no-false}
 
 -- how many of a list pass a test
 unfoldable pub one : Bool → ℕ
@@ -20,9 +20,6 @@ many f (a ∷ l) = one (f a) + many f l
 pub data All {A : Type 0} (P : A → Type 0) : List A → Type 0 where
   nil : All P []
   cons : {a : A} {l : List A} → P a → All P l → All P (a ∷ l)
-
-pub no-false : {A : Type 0} {b : Bool} → b ≡ true → b ≡ false → A
-no-false e d = absurd (subst T (sym e ∙ d) tt)
 
 module _ {A : Type 0} where
   pub many-append : (f : A → Bool) (l m : List A) → many f (l ++ m) ≡ many f l + many f m
@@ -91,29 +88,8 @@ module _ {A : Type 0} where
           let d : one false + many f l ≡ 1 = subst (λ (b : Bool). one b + many f l ≡ 1) h e in
           only-further f a l h (rest (omega arith))
 
-pub and-true : (b : Bool) → b && true ≡ b
-and-true true = refl
-and-true false = refl
-
-pub and-assoc : (a b c d : Bool) → b ≡ c && d → a && b ≡ a && c && d
-and-assoc true b c d e = e
-and-assoc false b c d e = refl
-
-pub and-left : (a b : Bool) → a && b ≡ true → a ≡ true
-and-left true b e = refl
-and-left false b e = e
-
-pub and-right : (a b : Bool) → a && b ≡ true → b ≡ true
-and-right true b e = e
-and-right false b e = no-false e refl
-
 pub halves : (a x : Bool) → one (a && sameTruth true x) + one (a && sameTruth false x) ≡ one a
 unfolding one sameTruth
 halves true true = refl
 halves true false = refl
 halves false x = refl
-
--- what holds on both sides of a test
-pub whichever : {A : Type 0} (P : A → Type 0) (b : Bool) {x y : A} → P x → P y → P (elim b [ true ↦ x | false ↦ y ])
-whichever P true p q = p
-whichever P false p q = q

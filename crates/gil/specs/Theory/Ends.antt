@@ -1,7 +1,6 @@
 -- The exploration ends, within 65 × (budget + 1) commands, and what it then comes to is the table: one command at a time and depth first
 -- are the same. Over any model. Assumes nothing.
 use Prim.Native.Nat.{ℕ, zero, suc, _+_, _-_, _*_, _≤_, _<_}
-use mathlib.Core.Bool.{Bool, true, false}
 use mathlib.Core.Path.{_≡_, refl, sym, ap, _∙_, subst}
 use mathlib.Core.List.{List, [], _∷_, _++_}
 use lib.ListN.{length, length-append}
@@ -13,19 +12,7 @@ use Rattle.gil.specs.Names.{Program}
 use Rattle.gil.specs.Machine.{Model, Next, on, ends, fork, Moved, move}
 use Rattle.gil.specs.Rows.{Path, Row, rowOf, cutFor, ended, steps, branches}
 use Rattle.gil.specs.Explore.{stepped, branched, turned, Explored, refused, explored, Exploring, stopped, exploring, finish, waitingOn, onTurn, walkTurn, overfull, turnIn, afterMove, advance, begin, afterCommands, walkMove, walk, explore}
-
--- two functions that agree on both sides of a test
-picks :
-    {A B C : Type 0} (f : A → C) (g : B → C) (t : Bool) {a a′ : A} {b b′ : B} → f a ≡ g b → f a′ ≡ g b′
-    → f (elim t [ true ↦ a | false ↦ a′ ]) ≡ g (elim t [ true ↦ b | false ↦ b′ ])
-picks f g true d e = d
-picks f g false d e = e
-
--- what holds on the side that a test falls out
-pub chosen :
-    {A : Type 0} (P : A → Type 0) (t : Bool) {a b : A} → (t ≡ true → P a) → (t ≡ false → P b) → P (elim t [ true ↦ a | false ↦ b ])
-chosen P true f g = f refl
-chosen P false f g = g refl
+use Rattle.gil.specs.Theory.Tests.{either, chosen}
 
 module _ (M : Model) (p : Program) (budget most : ℕ) where
   -- what the waiting branches come to, depth first
@@ -59,7 +46,7 @@ module _ (M : Model) (p : Program) (budget most : ℕ) where
   rest-turn w rows qs q (on s) = refl
   rest-turn w rows qs q (ends e) = rest-waiting qs (finish w rows (rowOf (ended e) (suc (q .steps)) q))
   rest-turn w rows qs q (fork t a b) =
-      picks (λ x. rest (onTurn w rows qs x)) (λ x. walkAll qs (walkTurn (walk M p most (budget - suc (q .steps))) w rows x))
+      either (λ x y. rest (onTurn w rows qs x) ≡ walkAll qs (walkTurn (walk M p most (budget - suc (q .steps))) w rows y))
       (leb most (length (q .conditions)))
       (rest-waiting qs (finish w rows (cutFor branches q))) refl
 
@@ -78,7 +65,7 @@ module _ (M : Model) (p : Program) (budget most : ℕ) where
   rest-move w rows qs q h =
       let m = move M p w (q .state) in
       let e : suc (budget - suc (q .steps)) ≡ budget - q .steps = omega arith in
-      picks rest (walkAll qs) (overfull M p (m .world)) (sym (all-refused qs 10)) (rest-turn (m .world) rows qs q (m .next))
+      either (λ x y. rest x ≡ walkAll qs y) (overfull M p (m .world)) (sym (all-refused qs 10)) (rest-turn (m .world) rows qs q (m .next))
       ∙ ap (λ (k : ℕ). walkAll qs (walk M p most k q (explored w rows))) e
 
   -- a command does not change what the exploration will come to

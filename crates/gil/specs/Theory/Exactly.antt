@@ -15,9 +15,10 @@ use Rattle.gil.specs.Plain.{plain, ran, ranTo, runFor, plainRun}
 use Rattle.gil.specs.Explore.{stepped, branched, turned, Exploring, finish, waitingOn, onTurn, overfull, turnIn, afterMove, advance, begin, afterCommands}
 use Rattle.gil.specs.Explore as Explore
 use Rattle.gil.specs.Accounts.{putEnd, putOutcome, putIn, Accounted}
+use Rattle.gil.specs.Theory.Tests.{chosen, no-false, and-true, and-assoc, and-left, and-right}
 use Rattle.gil.specs.Theory.Trees.{Tree, trees, valueIn, treeValue}
 use Rattle.gil.specs.Theory.PutIn.{holds, plain-end}
-use Rattle.gil.specs.Theory.Counting.{one, many, many-append, All, nil, cons, all-append, all-at, only-one, no-false, and-true, and-assoc, and-left, and-right, halves, whichever}
+use Rattle.gil.specs.Theory.Counting.{one, many, many-append, All, nil, cons, all-append, all-at, only-one, halves}
 use Rattle.gil.specs.Theory.TreePlain.{Alike, alike-start, Follows, plainNext, follow, put-alike}
 use Rattle.gil.specs.Theory.TreePlain as TreePlain
 
@@ -165,7 +166,7 @@ module _ (count : List Tree → ℕ) (p : Program) (inputs : List ℕ) where
     unfolding finish waitingOn many
     finish-kept r e h =
         let d : many rowMet (rs ++ (r ∷ [])) + many pathMet qs ≡ 1 = omega (arith, many-append rowMet rs (r ∷ [])) in
-        whichever (λ x. Kept (waitingOn qs x)) (leb 64 (length rs)) stopped (exploring d (all-append ran (cons h nil)) along)
+        chosen (λ x. Kept (waitingOn qs x)) (leb 64 (length rs)) (λ t. stopped) (λ t. exploring d (all-append ran (cons h nil)) along)
 
     forks-kept :
         (most : ℕ) (q : Path Tree) (t : Tree) (a b : State Tree)
@@ -180,9 +181,9 @@ module _ (count : List Tree → ℕ) (p : Program) (inputs : List ℕ) where
         λ h. after-true (next (met-before cs t true h)) (met-last cs t true h) in
         let onFalse : met (gained cs t false) ≡ true → Along (suc (q .steps)) b =
         λ h. after-false (next (met-before cs t false h)) (met-last cs t false h) in
-        whichever (λ x. Kept (onTurn w rs qs x)) (leb most (length cs))
-        (finish-kept (cutFor branches q) e (λ h. ran-cut (so-far h) branches cs))
-        (exploring c ran (cons onTrue (cons onFalse along)))
+        chosen (λ x. Kept (onTurn w rs qs x)) (leb most (length cs))
+        (λ t. finish-kept (cutFor branches q) e (λ h. ran-cut (so-far h) branches cs))
+        (λ t. exploring c ran (cons onTrue (cons onFalse along)))
 
     turned-kept :
         (most : ℕ) (q : Path Tree) (x : Next Tree)
@@ -199,10 +200,10 @@ module _ (count : List Tree → ℕ) (p : Program) (inputs : List ℕ) where
   advance-kept budget most (exploring e ran nil) = exploring e ran nil
   advance-kept budget most (exploring {w} {rs} e ran (cons {a = q} {l = qs} h along)) =
       let m = move (trees count) p w (q .state) in
-      whichever Kept (leb budget (q .steps))
-      (finish-kept w ran along (cutFor steps q) e (λ i. ran-cut (h i) steps (q .conditions)))
-      (whichever Kept (overfull (trees count) p (m .world)) stopped
-      (turned-kept (m .world) ran along most q (m .next) e h (λ i. after w (h i))))
+      chosen Kept (leb budget (q .steps))
+      (λ t. finish-kept w ran along (cutFor steps q) e (λ i. ran-cut (h i) steps (q .conditions)))
+      (λ t. chosen Kept (overfull (trees count) p (m .world)) (λ u. stopped)
+      (λ u. turned-kept (m .world) ran along most q (m .next) e h (λ i. after w (h i))))
 
   commands-kept : (budget most : ℕ) (w : List Tree) (n : ℕ) → Kept (afterCommands (trees count) p budget most w n)
   unfolding afterCommands begin many one holds pathMet

@@ -14,13 +14,14 @@ use Rattle.gil.specs.Explore.{Exploring, explored, waitingOn, afterComma
 use Rattle.gil.specs.Explore as Explore
 use Rattle.gil.specs.Pool.{Ref, Pool, pooled, table, valueOf, poolValues, meets, placeAmong, placed}
 use Rattle.gil.specs.Accounts.{Stands, here, further, Accounted, Accounts, explorationAfter}
+use Rattle.gil.specs.Theory.Tests.{chosen}
 use Rattle.gil.specs.Theory.Trees.{Tree, trees, treeValue}
 use Rattle.gil.specs.Theory.Relation.{Each, nil, cons, each-append, Relation, Values}
 use Rattle.gil.specs.Theory.Together.{Conditions, path, RowsOf, row, Explorings, exploring, cuts-rel, commands-rel}
 use Rattle.gil.specs.Theory.PutIn.{holds, holds-rel, put-row}
 use Rattle.gil.specs.Theory.PoolTree.{counted, asTrees, asTrees-step, treesOf, treesFrom, same-value}
 use Rattle.gil.specs.Theory.Exactly.{tree-accounted}
-use Rattle.gil.specs.Theory.Ends.{ends-in, chosen}
+use Rattle.gil.specs.Theory.Ends.{ends-in}
 
 -- what stands at a place of one of two lists that are related one by one
 record Beside {A B : Type 0} (Q : A → B → Type 0) (k : ℕ) (a : A) (l : List B) : Type 0 where

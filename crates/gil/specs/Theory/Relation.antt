@@ -13,6 +13,7 @@ use Rattle.gil.specs.Names.{Program}
 use Rattle.gil.specs.Values.{Constant, number, boolean, location, Sort, numbers, booleans, sortOf, sameSort, Fit, right, wrong, unlike, fit, Value, const, term, input}
 use Rattle.gil.specs.Machine
 use Rattle.gil.specs.Machine.{Model, Caller, Control, Store, Cell, State, End, Next, on, ends, fork, Result, ok, err, Act, Val, Moved, making, combine, negated}
+use Rattle.gil.specs.Theory.Tests.{either}
 
 -- lists of one length and optional things, related one by one
 pub data Each {A B : Type 0} (R : A → B → Type 0) : List A → List B → Type 0 where
@@ -46,18 +47,6 @@ module _ {A B : Type 0} (R : A → B → Type 0) where
   each-replicate : (n : ℕ) {a : A} {b : B} → R a b → Each R (replicate n a) (replicate n b)
   each-replicate zero r = nil
   each-replicate (suc n) r = cons r (each-replicate n r)
-
-  -- a test that falls out the same on both sides
-  pub either :
-      (t : Bool) {a a′ : A} {b b′ : B} → R a b → R a′ b′ → R (elim t [ true ↦ a | false ↦ a′ ]) (elim t [ true ↦ b | false ↦ b′ ])
-  either true q r = q
-  either false q r = r
-
-  pub either-of :
-      {t t′ : Bool} {a a′ : A} {b b′ : B}
-      → t ≡ t′ → R a b → R a′ b′ → R (elim t [ true ↦ a | false ↦ a′ ]) (elim t′ [ true ↦ b | false ↦ b′ ])
-  either-of {t} {t′} {a} {a′} {b} {b′} e q r =
-      subst (λ (x : Bool). R (elim t [ true ↦ a | false ↦ a′ ]) (elim x [ true ↦ b | false ↦ b′ ])) e (either t q r)
 
 module _ {A B : Type 0} {R Q : A → B → Type 0} (f : (a : A) (b : B) → R a b → Q a b) where
   pub each-map : (xs : List A) (ys : List B) → Each R xs ys → Each Q xs ys

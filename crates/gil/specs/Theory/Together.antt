@@ -12,7 +12,8 @@ use Rattle.gil.specs.Rows.{Condition, Reason, Outcome, Path, Row, rowOf,
 use Rattle.gil.specs.Rows as Rows
 use Rattle.gil.specs.Explore.{Turn, Exploring, stepped, branched, turned, finish, waitingOn, onTurn, overfull, turnIn, afterMove, advance, begin, afterCommands}
 use Rattle.gil.specs.Explore as Explore
-use Rattle.gil.specs.Theory.Relation.{Each, nil, cons, each-length, each-append, each-map, either, either-of, Relation, Laws, States, Ends, Nexts, Grows, Moves, grow-value, grow-state, move-rel, start-rel}
+use Rattle.gil.specs.Theory.Tests.{either, either-of}
+use Rattle.gil.specs.Theory.Relation.{Each, nil, cons, each-length, each-append, each-map, Relation, Laws, States, Ends, Nexts, Grows, Moves, grow-value, grow-state, move-rel, start-rel}
 use Rattle.gil.specs.Theory.Relation as Relation
 
 -- conditions, paths and rows, related part by part
