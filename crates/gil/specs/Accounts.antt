@@ -13,26 +13,28 @@ use Rattle.gil.specs.Plain.{plainRun}
 use Rattle.gil.specs.Explore.{Exploring, afterCommands}
 use Rattle.gil.specs.Pool.{Ref, Pool, pooled, valueOf, poolValues, meets}
 
--- a row as the plain run gives it: each value is the constant it comes to, conditions are gone, and a cut by either budget is a cut
-module _ {T : Type 0} (value : Value T → Constant) where
-  unfoldable pub putValue : Value T → Value ⊥
-  putValue v = const (value v)
-
-  unfoldable pub putVariable : Option (Value T) → Option (Value ⊥)
+-- variables, cells and ends with other values in them
+module _ {T U : Type 0} (value : Value T → Value U) where
+  unfoldable pub putVariable : Option (Value T) → Option (Value U)
   putVariable none = none
-  putVariable (some v) = some (putValue v)
+  putVariable (some v) = some (value v)
 
-  unfoldable pub putCell : Cell T → Cell ⊥
-  putCell c = record { location = c .location; property = c .property; value = putValue (c .value) }
+  unfoldable pub putCell : Cell T → Cell U
+  putCell c = record { location = c .location; property = c .property; value = value (c .value) }
 
-  unfoldable pub putEnd : End T → End ⊥
-  putEnd (returned v) = returned (putValue v)
-  putEnd (failed v) = failed (putValue v)
+  unfoldable pub putEnd : End T → End U
+  putEnd (returned v) = returned (value v)
+  putEnd (failed v) = failed (value v)
   putEnd vanished = vanished
   putEnd (error n) = error n
 
+-- a row as the plain run gives it: each value is the constant it comes to, conditions are gone, and a cut by either budget is a cut
+module _ {T : Type 0} (value : Value T → Constant) where
+  abbrev pub putValue : Value T → Value ⊥
+  putValue v = const (value v)
+
   unfoldable pub putOutcome : Outcome T → Outcome ⊥
-  putOutcome (ended e) = ended (putEnd e)
+  putOutcome (ended e) = ended (putEnd putValue e)
   putOutcome (cut why) = cut steps
 
   unfoldable pub putIn : Row T → Row ⊥
@@ -44,8 +46,8 @@ module _ {T : Type 0} (value : Value T → Constant) where
         command = r .command;
         inputs = r .inputs;
         conditions = [];
-        variables = map putVariable (r .variables);
-        cells = map putCell (r .cells);
+        variables = map (putVariable putValue) (r .variables);
+        cells = map (putCell putValue) (r .cells);
       }
 
 -- `Stands k a l`: `a` is the k-th of the list

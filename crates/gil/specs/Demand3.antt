@@ -6,11 +6,12 @@ use mathlib.Core.Path.{_≡_}
 use mathlib.Core.List.{List, [], _++_, map}
 use Rattle.gil.specs.Names.{Program}
 use Rattle.gil.specs.Rows.{Path, Row, cutFor, steps}
-use Rattle.gil.specs.Explore.{exploring, explored, waitingOn}
+use Rattle.gil.specs.Explore.{exploring, explored, waitingOn, explore}
 use Rattle.gil.specs.Pool.{Ref, Pool, table, poolValues, placed}
 use Rattle.gil.specs.Accounts.{Accounts, explorationAfter}
-use Rattle.gil.specs.Theory.Trees.{valueIn}
-use Rattle.gil.specs.Theory.PoolTree.{treesOf, pool-values}
+use Rattle.gil.specs.Theory.Trees.{valueIn, trees}
+use Rattle.gil.specs.Theory.PoolTree.{treesOf, counted, pool-values}
+use Rattle.gil.specs.Theory.AsTerms.{asTerms, table-read}
 use Rattle.gil.specs.Theory.Pooled.{commands-accounted, commands-table, table-accounted, placed-only}
 
 -- after every command of the exploration, the finished rows with the waiting branches read as cut account for the inputs
@@ -35,3 +36,7 @@ ends-at-the-table = commands-table
 -- evaluating the pool front to back gives each term the value of the tree that it reads as
 pub values-of-the-pool : (inputs : List ℕ) (w : Pool) → poolValues inputs w ≡ map (valueIn inputs) (treesOf w)
 values-of-the-pool = pool-values
+
+-- the table read as terms is what exploring over trees gives: the same rows, or the same refusal
+pub table-as-terms : (p : Program) (budget most : ℕ) → asTerms (table p budget most) ≡ explore (trees counted) p budget most []
+table-as-terms = table-read

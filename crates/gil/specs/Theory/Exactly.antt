@@ -14,10 +14,10 @@ use Rattle.gil.specs.Rows.{Condition, ended, cut, Reason, steps, branche
 use Rattle.gil.specs.Plain.{plain, ran, ranTo, runFor, plainRun}
 use Rattle.gil.specs.Explore.{stepped, branched, turned, Exploring, finish, waitingOn, onTurn, overfull, turnIn, afterMove, advance, begin, afterCommands}
 use Rattle.gil.specs.Explore as Explore
-use Rattle.gil.specs.Accounts.{putEnd, putOutcome, putIn, Accounted}
+use Rattle.gil.specs.Accounts.{putValue, putEnd, putOutcome, putIn, Accounted}
 use Rattle.gil.specs.Theory.Tests.{chosen, no-false, and-true, and-assoc, and-left, and-right}
 use Rattle.gil.specs.Theory.Trees.{Tree, trees, valueIn, treeValue}
-use Rattle.gil.specs.Theory.PutIn.{holds, plain-end}
+use Rattle.gil.specs.Theory.PutIn.{holds, same-end, plainly, plain-value}
 use Rattle.gil.specs.Theory.Counting.{one, many, many-append, All, nil, cons, all-append, all-at, only-one, halves}
 use Rattle.gil.specs.Theory.TreePlain.{Alike, alike-start, Follows, plainNext, follow, put-alike}
 use Rattle.gil.specs.Theory.TreePlain as TreePlain
@@ -74,13 +74,13 @@ module _ (count : List Tree → ℕ) (p : Program) (inputs : List ℕ) where
 
   ran-end :
       {n : ℕ} {s : State Tree} (h : Along n s) (e : End Tree) (e′ : End ⊥)
-      → plainNext count inputs p (h .through) ≡ ends e′ → putEnd (treeValue inputs) e ≡ e′
+      → plainNext count inputs p (h .through) ≡ ends e′ → putEnd (putValue (treeValue inputs)) e ≡ e′
       → (cs : List (Condition Tree)) → Ran (rowOf (ended e) (suc n) (record { state = s; steps = n; conditions = cs }))
   unfolding runFor ranTo plain plainNext putOutcome rowOf
   ran-end {n} {s} h e e′ next i cs =
       let d : suc n ≡ n + 1 = omega arith in
       ap (plainRun p inputs) d ∙ h .runs 1 ∙ ap (ranTo (runFor inputs p 0) n (h .through)) next
-      ∙ sym (put-alike count inputs (suc n) (ended e) (ended e′) n n cs s (h .through) (ap ended i) (ap ended (plain-end e′)) (h .alike))
+      ∙ sym (put-alike count inputs (suc n) (ended e) (ended e′) n n cs s (h .through) (ap ended i) (ap ended (same-end (putValue plainly) plain-value e′)) (h .alike))
 
   follows :
       {n : ℕ} {s : State Tree} (h : Along n s) {x : Next Tree} {y : Next ⊥}

@@ -13,24 +13,76 @@ use Rattle.gil.specs.Theory.Relation.{Each, nil, cons, Perhaps, unbound,
 use Rattle.gil.specs.Theory.Relation as Relation
 use Rattle.gil.specs.Theory.Together.{Conditions, condition, Outcomes, ended, cut, path, RowsOf, row}
 
+-- `f` and `g` make the same values of what is related
+module _
+    {M N : Model} {R : Relation M N} {w : M .World} {U : Type 0} (f : Val M → Value U) (g : Val N → Value U)
+    (agree : (a : Val M) (b : Val N) → Values R w a b → f a ≡ g b)
+  where
+    put-variable : {a : Option (Val M)} {b : Option (Val N)} → Perhaps (Values R w) a b → putVariable f a ≡ putVariable g b
+    unfolding putVariable
+    put-variable unbound = refl
+    put-variable (bound {a} {b} h) = ap some (agree a b h)
+
+    pub put-store : {ρ : Store (M .Term)} {ρ′ : Store (N .Term)} → Stores R w ρ ρ′ → map (putVariable f) ρ ≡ map (putVariable g) ρ′
+    put-store nil = refl
+    put-store (cons h hs) = ap₂ {C = Store U} (λ x xs. x ∷ xs) (put-variable h) (put-store hs)
+
+    put-cell : {c : Cell (M .Term)} {c′ : Cell (N .Term)} → Cells R w c c′ → putCell f c ≡ putCell g c′
+    unfolding putCell
+    put-cell (cell {l} {q} {a} {b} h) = ap {B = Cell U} (λ v. record { location = l; property = q; value = v }) (agree a b h)
+
+    pub put-cells :
+        {cs : List (Cell (M .Term))} {cs′ : List (Cell (N .Term))} → Each (Cells R w) cs cs′ → map (putCell f) cs ≡ map (putCell g) cs′
+    put-cells nil = refl
+    put-cells (cons h hs) = ap₂ {C = List (Cell U)} (λ x xs. x ∷ xs) (put-cell h) (put-cells hs)
+
+    pub put-end : {e : End (M .Term)} {e′ : End (N .Term)} → Ends R w e e′ → putEnd f e ≡ putEnd g e′
+    unfolding putEnd
+    put-end (Relation.returned {a} {b} h) = ap returned (agree a b h)
+    put-end (Relation.failed {a} {b} h) = ap failed (agree a b h)
+    put-end Relation.vanished = refl
+    put-end Relation.error = refl
+
+-- what changes no value changes nothing
+module _ {T : Type 0} (f : Value T → Value T) (same : (v : Value T) → f v ≡ v) where
+  pub same-store : (ρ : Store T) → map (putVariable f) ρ ≡ ρ
+  unfolding putVariable
+  same-store [] = refl
+  same-store (none ∷ ρ) = ap {B = Store T} (λ xs. none ∷ xs) (same-store ρ)
+  same-store (some v ∷ ρ) = ap₂ {C = Store T} (λ x xs. some x ∷ xs) (same v) (same-store ρ)
+
+  pub same-cells : (cs : List (Cell T)) → map (putCell f) cs ≡ cs
+  unfolding putCell
+  same-cells [] = refl
+  same-cells (c ∷ cs) =
+      ap₂ {C = List (Cell T)} (λ v xs. record { location = c .location; property = c .property; value = v } ∷ xs)
+      (same (c .value)) (same-cells cs)
+
+  pub same-end : (e : End T) → putEnd f e ≡ e
+  unfolding putEnd
+  same-end (returned v) = ap returned (same v)
+  same-end (failed v) = ap failed (same v)
+  same-end vanished = refl
+  same-end (error n) = refl
+
 -- a row with other values in it
-withParts : {T : Type 0} → Row T → Outcome T → Store T → List (Cell T) → Row T
-withParts r o ρ cs =
+unfoldable pub withParts : {T : Type 0} → Row T → Outcome T → List (Condition T) → Store T → List (Cell T) → Row T
+withParts r o ds ρ cs =
     record {
       outcome = o;
       steps = r .steps;
       procedure = r .procedure;
       command = r .command;
       inputs = r .inputs;
-      conditions = r .conditions;
+      conditions = ds;
       variables = ρ;
       cells = cs;
     }
 
-parts :
-    {T : Type 0} (r : Row T) {o o′ : Outcome T} {ρ ρ′ : Store T} {cs cs′ : List (Cell T)} → o ≡ o′ → ρ ≡ ρ′ → cs ≡ cs′
-    → withParts r o ρ cs ≡ withParts r o′ ρ′ cs′
-parts r a b c = λ j. withParts r (a j) (b j) (c j)
+pub parts :
+    {T : Type 0} (r : Row T) {o o′ : Outcome T} {ds ds′ : List (Condition T)} {ρ ρ′ : Store T} {cs cs′ : List (Cell T)}
+    → o ≡ o′ → ds ≡ ds′ → ρ ≡ ρ′ → cs ≡ cs′ → withParts r o ds ρ cs ≡ withParts r o′ ds′ ρ′ cs′
+parts r a b c d = λ j. withParts r (a j) (b j) (c j) (d j)
 
 -- conditions hold if each term has the truth it must have
 unfoldable pub holds : {T : Type 0} → (Value T → Constant) → List (Condition T) → Bool
@@ -42,38 +94,12 @@ module _
     {M N : Model} {R : Relation M N} {w : M .World} (f : Val M → Constant) (g : Val N → Constant)
     (agree : (a : Val M) (b : Val N) → Values R w a b → f a ≡ g b)
   where
-    put-value : {a : Val M} {b : Val N} → Values R w a b → putValue f a ≡ putValue g b
-    unfolding putValue
-    put-value {a} {b} h = ap const (agree a b h)
-
-    put-variable : {a : Option (Val M)} {b : Option (Val N)} → Perhaps (Values R w) a b → putVariable f a ≡ putVariable g b
-    unfolding putVariable
-    put-variable unbound = refl
-    put-variable (bound h) = ap some (put-value h)
-
-    put-store : {ρ : Store (M .Term)} {ρ′ : Store (N .Term)} → Stores R w ρ ρ′ → map (putVariable f) ρ ≡ map (putVariable g) ρ′
-    put-store nil = refl
-    put-store (cons h hs) = ap₂ {C = Store ⊥} (λ x xs. x ∷ xs) (put-variable h) (put-store hs)
-
-    put-cell : {c : Cell (M .Term)} {c′ : Cell (N .Term)} → Cells R w c c′ → putCell f c ≡ putCell g c′
-    unfolding putCell
-    put-cell (cell {l} {q} h) = ap {B = Cell ⊥} (λ v. record { location = l; property = q; value = v }) (put-value h)
-
-    put-cells :
-        {cs : List (Cell (M .Term))} {cs′ : List (Cell (N .Term))} → Each (Cells R w) cs cs′ → map (putCell f) cs ≡ map (putCell g) cs′
-    put-cells nil = refl
-    put-cells (cons h hs) = ap₂ {C = List (Cell ⊥)} (λ x xs. x ∷ xs) (put-cell h) (put-cells hs)
-
-    pub put-end : {e : End (M .Term)} {e′ : End (N .Term)} → Ends R w e e′ → putEnd f e ≡ putEnd g e′
-    unfolding putEnd
-    put-end (Relation.returned h) = ap returned (put-value h)
-    put-end (Relation.failed h) = ap failed (put-value h)
-    put-end Relation.vanished = refl
-    put-end Relation.error = refl
+    pub put-value : (a : Val M) (b : Val N) → Values R w a b → putValue f a ≡ putValue g b
+    put-value a b h = ap const (agree a b h)
 
     put-outcome : {o : Outcome (M .Term)} {o′ : Outcome (N .Term)} → Outcomes R w o o′ → putOutcome f o ≡ putOutcome g o′
     unfolding putOutcome
-    put-outcome (ended h) = ap Rattle.gil.specs.Rows.ended (put-end h)
+    put-outcome (ended h) = ap Rattle.gil.specs.Rows.ended (put-end (putValue f) (putValue g) put-value h)
     put-outcome cut = refl
 
     -- two paths that stand in related states, whatever their conditions
@@ -85,7 +111,8 @@ module _
         ≡ putIn g (rowOf o′ n (record { state = s′; steps = m′; conditions = ds′ }))
     unfolding putIn rowOf withParts
     put-state n o o′ m m′ ds ds′ {s} e (states h hs k) =
-        parts (putIn f (rowOf o n (record { state = s; steps = m; conditions = ds }))) e (put-store h) (put-cells k)
+        parts (putIn f (rowOf o n (record { state = s; steps = m; conditions = ds }))) e refl
+        (put-store (putValue f) (putValue g) put-value h) (put-cells (putValue f) (putValue g) put-value k)
 
     pub put-row : {r : Row (M .Term)} {r′ : Row (N .Term)} → RowsOf R w r r′ → putIn f r ≡ putIn g r′
     put-row (row {o} {o′} n h (path {n = m} {cs} {cs′} s c)) = put-state n o o′ m m cs cs′ (put-outcome h) s
@@ -101,32 +128,14 @@ unfoldable pub plainly : Value ⊥ → Constant
 plainly (const c) = c
 plainly (term t) = absurd t
 
-plain-value : (v : Value ⊥) → putValue plainly v ≡ v
-unfolding putValue plainly
+pub plain-value : (v : Value ⊥) → putValue plainly v ≡ v
+unfolding plainly
 plain-value (const c) = refl
 plain-value (term t) = absurd t
-
-plain-store : (ρ : Store ⊥) → map (putVariable plainly) ρ ≡ ρ
-unfolding putVariable
-plain-store [] = refl
-plain-store (none ∷ ρ) = ap {B = Store ⊥} (λ xs. none ∷ xs) (plain-store ρ)
-plain-store (some v ∷ ρ) = ap₂ {C = Store ⊥} (λ x xs. some x ∷ xs) (plain-value v) (plain-store ρ)
-
-plain-cells : (cs : List (Cell ⊥)) → map (putCell plainly) cs ≡ cs
-unfolding putCell
-plain-cells [] = refl
-plain-cells (c ∷ cs) =
-    ap₂ {C = List (Cell ⊥)} (λ v xs. record { location = c .location; property = c .property; value = v } ∷ xs)
-    (plain-value (c .value)) (plain-cells cs)
-
-pub plain-end : (e : End ⊥) → putEnd plainly e ≡ e
-unfolding putEnd
-plain-end (returned v) = ap returned (plain-value v)
-plain-end (failed v) = ap failed (plain-value v)
-plain-end vanished = refl
-plain-end (error n) = refl
 
 pub plain-row :
     (o : Outcome ⊥) (n m : ℕ) (s : State ⊥) → putOutcome plainly o ≡ o → putIn plainly (rowOf o n (ran m s)) ≡ rowOf o n (ran m s)
 unfolding putIn rowOf ran withParts
-plain-row o n m s e = parts (rowOf o n (ran m s)) e (plain-store (s .variables)) (plain-cells (s .cells))
+plain-row o n m s e =
+    parts (rowOf o n (ran m s)) e refl
+    (same-store (putValue plainly) plain-value (s .variables)) (same-cells (putValue plainly) plain-value (s .cells))

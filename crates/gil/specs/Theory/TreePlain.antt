@@ -10,12 +10,12 @@ use Rattle.gil.specs.Values.{Constant, boolean, sortOf, work, workNot, V
 use Rattle.gil.specs.Machine.{State, End, Next, on, ends, fork, move, start, making, combine, negated, give}
 use Rattle.gil.specs.Rows.{Condition, Outcome, rowOf}
 use Rattle.gil.specs.Plain.{plain, known, ran}
-use Rattle.gil.specs.Accounts.{putEnd, putOutcome, putIn}
+use Rattle.gil.specs.Accounts.{putValue, putEnd, putOutcome, putIn}
 use Rattle.gil.specs.Theory.Trees
 use Rattle.gil.specs.Theory.Trees.{Tree, trees, valueIn, treeValue, value-sort, value-place}
 use Rattle.gil.specs.Theory.Relation
 use Rattle.gil.specs.Theory.Relation.{Relation, Laws, Values, consts, valued, terms, States, Nexts, Acts, oks, Grows, grow-state, give-rel, start-rel, move-rel}
-use Rattle.gil.specs.Theory.PutIn.{put-end, put-state, plainly, plain-end, plain-row}
+use Rattle.gil.specs.Theory.PutIn.{put-value, put-end, same-end, put-state, plainly, plain-value, plain-row}
 
 module _ (count : List Tree → ℕ) (inputs : List ℕ) where
   unfoldable pub onInputs : Relation (trees count) (plain inputs)
@@ -79,7 +79,7 @@ module _ (count : List Tree → ℕ) (inputs : List ℕ) where
   -- where a command of the tree's state goes, and where the plain one goes by it
   pub data Follows : Next Tree → Next ⊥ → Type 0 where
     goes : {s : State Tree} {s′ : State ⊥} → Alike s s′ → Follows (on s) (on s′)
-    stops : {e : End Tree} {e′ : End ⊥} → putEnd (treeValue inputs) e ≡ e′ → Follows (ends e) (ends e′)
+    stops : {e : End Tree} {e′ : End ⊥} → putEnd (putValue (treeValue inputs)) e ≡ e′ → Follows (ends e) (ends e′)
     isTrue : {t : Tree} {a b : State Tree} {s : State ⊥} → valueIn inputs t ≡ boolean true → Alike a s → Follows (fork t a b) (on s)
     isFalse : {t : Tree} {a b : State Tree} {s : State ⊥} → valueIn inputs t ≡ boolean false → Alike b s → Follows (fork t a b) (on s)
 
@@ -90,7 +90,9 @@ module _ (count : List Tree → ℕ) (inputs : List ℕ) where
   followed : (w : List Tree) {x : Next Tree} {y : Next ⊥} → (unfold plain in Nexts onInputs w x y) → Follows x y
   unfolding Alike onInputs plain
   followed w (Relation.goes h) = goes (grow-state (still w []) h)
-  followed w (Relation.stops {e′} h) = stops (put-end (treeValue inputs) plainly (same-value w) h ∙ plain-end e′)
+  followed w (Relation.stops {e′} h) =
+      let agree = put-value (treeValue inputs) plainly (same-value w) in
+      stops (put-end (putValue (treeValue inputs)) (putValue plainly) agree h ∙ same-end (putValue plainly) plain-value e′)
   followed w (Relation.forks h a b) = absurd h
   followed w (Relation.isTrue h a) = isTrue h (grow-state (still w []) a)
   followed w (Relation.isFalse h b) = isFalse h (grow-state (still w []) b)
