@@ -10,7 +10,7 @@ use native.Mathlib.Omega.{arith}
 use native.Mathlib.Nat.{suc-mul}
 use Rattle.gil.specs.Names.{Program}
 use Rattle.gil.specs.Machine.{Model, Next, on, ends, fork, Moved, move}
-use Rattle.gil.specs.Rows.{Path, Row, rowOf, cutFor, ended, steps, branches}
+use Rattle.gil.specs.Rows.{Path, Row, cutFor, steps}
 use Rattle.gil.specs.Explore.{stepped, branched, turned, Explored, refused, explored, Exploring, stopped, exploring, finish, waitingOn, onTurn, walkTurn, overfull, turnIn, afterMove, advance, begin, afterCommands, walkMove, walk, explore}
 use Rattle.gil.specs.Theory.Tests.{either, chosen}
 
@@ -44,11 +44,11 @@ module _ (M : Model) (p : Program) (budget most : ℕ) where
       → rest (onTurn w rows qs (turned most q x)) ≡ walkAll qs (walkTurn (walk M p most (budget - suc (q .steps))) w rows (turned most q x))
   unfolding onTurn walkTurn turned rest walkAll stepped branched
   rest-turn w rows qs q (on s) = refl
-  rest-turn w rows qs q (ends e) = rest-waiting qs (finish w rows (rowOf (ended e) (suc (q .steps)) q))
+  rest-turn w rows qs q (ends e) = rest-waiting qs (finish w rows _)
   rest-turn w rows qs q (fork t a b) =
       either (λ x y. rest (onTurn w rows qs x) ≡ walkAll qs (walkTurn (walk M p most (budget - suc (q .steps))) w rows y))
       (leb most (length (q .conditions)))
-      (rest-waiting qs (finish w rows (cutFor branches q))) refl
+      (rest-waiting qs (finish w rows _)) refl
 
   rest-cut :
       (w : M .World) (rows : List (Row (M .Term))) (qs : List (Path (M .Term))) (q : Path (M .Term)) → budget ≤ q .steps
@@ -118,12 +118,12 @@ module _ (M : Model) (p : Program) (budget most : ℕ) where
       → left (onTurn w rows qs (turned most q x)) ≤ budget - q .steps + (64 - length rows) * suc budget
   unfolding onTurn turned left stepped branched
   turn-left w rows qs q (on s) h = omega arith
-  turn-left w rows qs q (ends e) h = finish-left w rows qs (rowOf (ended e) (suc (q .steps)) q) (budget - q .steps)
+  turn-left w rows qs q (ends e) h = finish-left w rows qs _ (budget - q .steps)
   turn-left w rows qs q (fork t a b) h =
       let less : suc (budget - suc (q .steps)) + (64 - length rows) * suc budget ≤ budget - q .steps + (64 - length rows) * suc budget =
       omega arith in
       chosen (λ x. left (onTurn w rows qs x) ≤ budget - q .steps + (64 - length rows) * suc budget) (leb most (length (q .conditions)))
-      (λ e. finish-left w rows qs (cutFor branches q) (budget - q .steps))
+      (λ e. finish-left w rows qs _ (budget - q .steps))
       (λ e. less)
 
   move-left :
@@ -144,7 +144,7 @@ module _ (M : Model) (p : Program) (budget most : ℕ) where
       let e : budget - q .steps + (64 - length rows) * suc budget ≡ suc (budget - q .steps) + (64 - length rows) * suc budget - 1 = omega arith in
       subst (λ (k : ℕ). left (advance M p budget most (exploring w rows (q ∷ qs))) ≤ k) e
       (chosen (λ x. left x ≤ budget - q .steps + (64 - length rows) * suc budget) (leb budget (q .steps))
-      (λ e. finish-left w rows qs (cutFor steps q) (budget - q .steps))
+      (λ e. finish-left w rows qs _ (budget - q .steps))
       (λ e. move-left rows qs q (move M p w (q .state)) (leb-false _ _ e)))
 
   commands-left : (w : M .World) (n : ℕ) → left (afterCommands M p budget most w n) ≤ 65 * suc budget - n

@@ -182,7 +182,7 @@ module _ (count : List Tree → ℕ) (p : Program) (inputs : List ℕ) where
         let onFalse : met (gained cs t false) ≡ true → Along (suc (q .steps)) b =
         λ h. after-false (next (met-before cs t false h)) (met-last cs t false h) in
         chosen (λ x. Kept (onTurn w rs qs x)) (leb most (length cs))
-        (λ t. finish-kept (cutFor branches q) e (λ h. ran-cut (so-far h) branches cs))
+        (λ t. finish-kept _ e (λ h. ran-cut (so-far h) branches cs))
         (λ t. exploring c ran (cons onTrue (cons onFalse along)))
 
     turned-kept :
@@ -191,7 +191,7 @@ module _ (count : List Tree → ℕ) (p : Program) (inputs : List ℕ) where
         → (pathMet q ≡ true → After (q .steps) (q .state) x) → Kept (onTurn w rs qs (turned most q x))
     unfolding turned onTurn many rowMet pathMet stepped rowOf
     turned-kept most q (on s) e so-far next = exploring e ran (cons (λ h. after-on (next h)) along)
-    turned-kept most q (ends d) e so-far next = finish-kept (rowOf (ended d) (suc (q .steps)) q) e (λ h. after-ends (next h) (q .conditions))
+    turned-kept most q (ends d) e so-far next = finish-kept _ e (λ h. after-ends (next h) (q .conditions))
     turned-kept most q (fork t a b) e so-far next = forks-kept most q t a b e so-far next
 
   advance-kept : (budget most : ℕ) {x : Exploring (List Tree) Tree} → Kept x → Kept (advance (trees count) p budget most x)
@@ -201,7 +201,7 @@ module _ (count : List Tree → ℕ) (p : Program) (inputs : List ℕ) where
   advance-kept budget most (exploring {w} {rs} e ran (cons {a = q} {l = qs} h along)) =
       let m = move (trees count) p w (q .state) in
       chosen Kept (leb budget (q .steps))
-      (λ t. finish-kept w ran along (cutFor steps q) e (λ i. ran-cut (h i) steps (q .conditions)))
+      (λ t. finish-kept w ran along _ e (λ i. ran-cut (h i) steps (q .conditions)))
       (λ t. chosen Kept (overfull (trees count) p (m .world)) (λ u. stopped)
       (λ u. turned-kept (m .world) ran along most q (m .next) e h (λ i. after w (h i))))
 
