@@ -7,7 +7,7 @@ use mathlib.Core.List.{List, [], _∷_, map}
 use mathlib.Core.Option.{Option, none, some}
 use Rattle.gil.specs.Names.{Program}
 use Rattle.gil.specs.Values.{Constant, Value, const}
-use Rattle.gil.specs.Machine.{Cell, End, returned, failed, vanished, error}
+use Rattle.gil.specs.Machine.{Cell, Store, End, returned, failed, vanished, error}
 use Rattle.gil.specs.Rows.{Condition, Outcome, ended, cut, steps, Row}
 use Rattle.gil.specs.Plain.{plainRun}
 use Rattle.gil.specs.Explore.{Exploring, afterCommands}
@@ -28,6 +28,20 @@ module _ {T U : Type 0} (value : Value T → Value U) where
   putEnd vanished = vanished
   putEnd (error n) = error n
 
+-- a row's numbers, with an outcome, conditions, variables and cells
+unfoldable pub rowWith : {T U : Type 0} → Row T → Outcome U → List (Condition U) → Store U → List (Cell U) → Row U
+rowWith r o ds ρ cs =
+    record {
+      outcome = o;
+      steps = r .steps;
+      procedure = r .procedure;
+      command = r .command;
+      inputs = r .inputs;
+      conditions = ds;
+      variables = ρ;
+      cells = cs;
+    }
+
 -- a row as the plain run gives it: each value is the constant it comes to, conditions are gone, and a cut by either budget is a cut
 module _ {T : Type 0} (value : Value T → Constant) where
   abbrev pub putValue : Value T → Value ⊥
@@ -39,16 +53,7 @@ module _ {T : Type 0} (value : Value T → Constant) where
 
   unfoldable pub putIn : Row T → Row ⊥
   putIn r =
-      record {
-        outcome = putOutcome (r .outcome);
-        steps = r .steps;
-        procedure = r .procedure;
-        command = r .command;
-        inputs = r .inputs;
-        conditions = [];
-        variables = map (putVariable putValue) (r .variables);
-        cells = map (putCell putValue) (r .cells);
-      }
+      rowWith r (putOutcome (r .outcome)) [] (map (putVariable putValue) (r .variables)) (map (putCell putValue) (r .cells))
 
 -- `Stands k a l`: `a` is the k-th of the list
 pub data Stands {A : Type 0} : ℕ → A → List A → Type 0 where

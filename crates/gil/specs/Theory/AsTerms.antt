@@ -10,12 +10,12 @@ use Rattle.gil.specs.Values.{Value}
 use Rattle.gil.specs.Rows.{Condition, Outcome, ended, cut, Row, rowOf}
 use Rattle.gil.specs.Explore.{Explored, refused, explored, waitingOn, explore}
 use Rattle.gil.specs.Pool.{Ref, placeIn, Pool, pooled, table}
-use Rattle.gil.specs.Accounts.{putVariable, putCell, putEnd}
+use Rattle.gil.specs.Accounts.{rowWith, putVariable, putCell, putEnd}
 use Rattle.gil.specs.Theory.Trees.{Tree, trees}
 use Rattle.gil.specs.Theory.Relation.{Each, nil, cons, Values, consts, valued, terms, states}
 use Rattle.gil.specs.Theory.Together.{Conditions, condition, Outcomes, path, RowsOf, row, Explorings, stopped, exploring, commands-rel}
 use Rattle.gil.specs.Theory.Together as Together
-use Rattle.gil.specs.Theory.PutIn.{put-store, put-cells, put-end, same-store, same-cells, same-end, withParts, parts}
+use Rattle.gil.specs.Theory.PutIn.{put-store, put-cells, put-end, same-store, same-cells, same-end, parts}
 use Rattle.gil.specs.Theory.PoolTree.{nothing, readValue, treesOf, treesFrom, counted, asTrees, asTrees-step}
 use Rattle.gil.specs.Theory.Ends.{ends-in}
 
@@ -29,16 +29,8 @@ module _ (ts : List Tree) where
 
   unfoldable pub readRow : Row Ref → Row Tree
   readRow r =
-      record {
-        outcome = readOutcome (r .outcome);
-        steps = r .steps;
-        procedure = r .procedure;
-        command = r .command;
-        inputs = r .inputs;
-        conditions = map readCondition (r .conditions);
-        variables = map (putVariable (readValue ts)) (r .variables);
-        cells = map (putCell (readValue ts)) (r .cells);
-      }
+      rowWith r (readOutcome (r .outcome)) (map readCondition (r .conditions)) (map (putVariable (readValue ts)) (r .variables))
+      (map (putCell (readValue ts)) (r .cells))
 
 unfoldable pub asTerms : Explored Pool Ref → Explored (List Tree) Tree
 asTerms (refused n) = refused n
@@ -66,7 +58,7 @@ module _ (w : Pool) where
       ap₂ {C = List (Condition Tree)} (λ t ds. record { term = t; truth = b } ∷ ds) (h .reads) (conditions-read _ _ hs)
 
   row-read : (r : Row Ref) (r′ : Row Tree) → (unfold pooled in RowsOf asTrees w r r′) → readRow (treesOf w) r ≡ r′
-  unfolding readRow rowOf pooled withParts
+  unfolding readRow rowOf pooled rowWith
   row-read r r′ (row n {q′} o (path (states h hs k) cs)) =
       parts r′ (outcome-read _ _ o) (conditions-read _ _ cs)
       (put-store (readValue (treesOf w)) (λ v. v) value-read h ∙ same-store (λ v. v) (λ v. refl) _)

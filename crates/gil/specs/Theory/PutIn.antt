@@ -8,7 +8,7 @@ use Rattle.gil.specs.Values.{Constant, truthIn, sameTruth, Value, const,
 use Rattle.gil.specs.Machine.{Model, Cell, Store, State, End, returned, failed, vanished, error, Val}
 use Rattle.gil.specs.Rows.{Condition, Outcome, Row, rowOf}
 use Rattle.gil.specs.Plain.{ran}
-use Rattle.gil.specs.Accounts.{putValue, putVariable, putCell, putEnd, putOutcome, putIn}
+use Rattle.gil.specs.Accounts.{rowWith, putValue, putVariable, putCell, putEnd, putOutcome, putIn}
 use Rattle.gil.specs.Theory.Relation.{Each, nil, cons, Perhaps, unbound, bound, Relation, Values, Stores, Cells, cell, States, states, Ends}
 use Rattle.gil.specs.Theory.Relation as Relation
 use Rattle.gil.specs.Theory.Together.{Conditions, condition, Outcomes, ended, cut, path, RowsOf, row}
@@ -65,24 +65,10 @@ module _ {T : Type 0} (f : Value T → Value T) (same : (v : Value T) → f v �
   same-end vanished = refl
   same-end (error n) = refl
 
--- a row with other values in it
-unfoldable pub withParts : {T : Type 0} → Row T → Outcome T → List (Condition T) → Store T → List (Cell T) → Row T
-withParts r o ds ρ cs =
-    record {
-      outcome = o;
-      steps = r .steps;
-      procedure = r .procedure;
-      command = r .command;
-      inputs = r .inputs;
-      conditions = ds;
-      variables = ρ;
-      cells = cs;
-    }
-
 pub parts :
-    {T : Type 0} (r : Row T) {o o′ : Outcome T} {ds ds′ : List (Condition T)} {ρ ρ′ : Store T} {cs cs′ : List (Cell T)}
-    → o ≡ o′ → ds ≡ ds′ → ρ ≡ ρ′ → cs ≡ cs′ → withParts r o ds ρ cs ≡ withParts r o′ ds′ ρ′ cs′
-parts r a b c d = λ j. withParts r (a j) (b j) (c j) (d j)
+    {T U : Type 0} (r : Row T) {o o′ : Outcome U} {ds ds′ : List (Condition U)} {ρ ρ′ : Store U} {cs cs′ : List (Cell U)}
+    → o ≡ o′ → ds ≡ ds′ → ρ ≡ ρ′ → cs ≡ cs′ → rowWith r o ds ρ cs ≡ rowWith r o′ ds′ ρ′ cs′
+parts r a b c d = λ j. rowWith r (a j) (b j) (c j) (d j)
 
 -- conditions hold if each term has the truth it must have
 unfoldable pub holds : {T : Type 0} → (Value T → Constant) → List (Condition T) → Bool
@@ -109,7 +95,7 @@ module _
         {s : State (M .Term)} {s′ : State (N .Term)} → putOutcome f o ≡ putOutcome g o′ → States R w s s′
         → putIn f (rowOf o n (record { state = s; steps = m; conditions = ds }))
         ≡ putIn g (rowOf o′ n (record { state = s′; steps = m′; conditions = ds′ }))
-    unfolding putIn rowOf withParts
+    unfolding putIn rowOf rowWith
     put-state n o o′ m m′ ds ds′ {s} e (states h hs k) =
         parts (putIn f (rowOf o n (record { state = s; steps = m; conditions = ds }))) e refl
         (put-store (putValue f) (putValue g) put-value h) (put-cells (putValue f) (putValue g) put-value k)
@@ -135,7 +121,7 @@ plain-value (term t) = absurd t
 
 pub plain-row :
     (o : Outcome ⊥) (n m : ℕ) (s : State ⊥) → putOutcome plainly o ≡ o → putIn plainly (rowOf o n (ran m s)) ≡ rowOf o n (ran m s)
-unfolding putIn rowOf ran withParts
+unfolding putIn rowOf ran rowWith
 plain-row o n m s e =
     parts (rowOf o n (ran m s)) e refl
     (same-store (putValue plainly) plain-value (s .variables)) (same-cells (putValue plainly) plain-value (s .cells))
