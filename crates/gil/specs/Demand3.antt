@@ -10,7 +10,8 @@ use Rattle.gil.specs.Explore.{exploring, explored, waitingOn, explore}
 use Rattle.gil.specs.Pool.{Ref, Pool, table, poolValues, placed}
 use Rattle.gil.specs.Accounts.{Accounts, explorationAfter}
 use Rattle.gil.specs.Theory.Trees.{valueIn, trees}
-use Rattle.gil.specs.Theory.PoolTree.{treesOf, counted, pool-values}
+use Rattle.gil.specs.Theory.ReadBack.{treesOf, pool-values}
+use Rattle.gil.specs.Theory.PoolTree.{counted}
 use Rattle.gil.specs.Theory.AsTerms.{asTerms, table-read}
 use Rattle.gil.specs.Theory.Pooled.{commands-accounted, commands-table, table-accounted, placed-only}
 

@@ -7,6 +7,7 @@ pub mod Relation
 pub mod Together
 pub mod PutIn
 pub mod TreePlain
+pub mod ReadBack
 pub mod PoolTree
 pub mod Counting
 pub mod Exactly

@@ -6,17 +6,17 @@ use mathlib.Core.List.{List, [], _∷_, map}
 use lib.ListN.{getD}
 use native.Mathlib.Omega.{arith}
 use Rattle.gil.specs.Names.{Program}
-use Rattle.gil.specs.Values.{Value}
 use Rattle.gil.specs.Rows.{Condition, Outcome, ended, cut, Row, rowOf}
 use Rattle.gil.specs.Explore.{Explored, refused, explored, waitingOn, explore}
 use Rattle.gil.specs.Pool.{Ref, placeIn, Pool, pooled, table}
 use Rattle.gil.specs.Accounts.{rowWith, putVariable, putCell, putEnd}
 use Rattle.gil.specs.Theory.Trees.{Tree, trees}
-use Rattle.gil.specs.Theory.Relation.{Each, nil, cons, Values, consts, valued, terms, states}
+use Rattle.gil.specs.Theory.Relation.{Each, nil, cons, states}
 use Rattle.gil.specs.Theory.Together.{Conditions, condition, Outcomes, path, RowsOf, row, Explorings, stopped, exploring, commands-rel}
 use Rattle.gil.specs.Theory.Together as Together
 use Rattle.gil.specs.Theory.PutIn.{put-store, put-cells, put-end, same-store, same-cells, same-end, parts}
-use Rattle.gil.specs.Theory.PoolTree.{nothing, readValue, treesOf, treesFrom, counted, asTrees, asTrees-step}
+use Rattle.gil.specs.Theory.PoolTree.{counted, asTrees, asTrees-step, value-read}
+use Rattle.gil.specs.Theory.ReadBack.{nothing, readValue, treesOf, treesFrom}
 use Rattle.gil.specs.Theory.Ends.{ends-in}
 
 module _ (ts : List Tree) where
@@ -37,16 +37,10 @@ asTerms (refused n) = refused n
 asTerms (explored w rows) = explored (treesOf w) (map (readRow (treesOf w)) rows)
 
 module _ (w : Pool) where
-  value-read : (a : Value Ref) (b : Value Tree) → (unfold pooled in Values asTrees w a b) → readValue (treesOf w) a ≡ b
-  unfolding asTrees pooled readValue
-  value-read a b consts = refl
-  value-read a b (valued h) = absurd h
-  value-read a b (terms h) = ap Rattle.gil.specs.Values.term (h .reads)
-
   outcome-read : (o : Outcome Ref) (o′ : Outcome Tree) → (unfold pooled in Outcomes asTrees w o o′) → readOutcome (treesOf w) o ≡ o′
   unfolding readOutcome pooled
   outcome-read o o′ (Together.ended {e′} h) =
-      ap ended (put-end (readValue (treesOf w)) (λ v. v) value-read h ∙ same-end (λ v. v) (λ v. refl) e′)
+      ap ended (put-end (readValue (treesOf w)) (λ v. v) (value-read w) h ∙ same-end (λ v. v) (λ v. refl) e′)
   outcome-read o o′ Together.cut = refl
 
   conditions-read :
@@ -61,8 +55,8 @@ module _ (w : Pool) where
   unfolding readRow rowOf pooled rowWith
   row-read r r′ (row n {q′} o (path (states h hs k) cs)) =
       parts r′ (outcome-read _ _ o) (conditions-read _ _ cs)
-      (put-store (readValue (treesOf w)) (λ v. v) value-read h ∙ same-store (λ v. v) (λ v. refl) _)
-      (put-cells (readValue (treesOf w)) (λ v. v) value-read k ∙ same-cells (λ v. v) (λ v. refl) _)
+      (put-store (readValue (treesOf w)) (λ v. v) (value-read w) h ∙ same-store (λ v. v) (λ v. refl) _)
+      (put-cells (readValue (treesOf w)) (λ v. v) (value-read w) k ∙ same-cells (λ v. v) (λ v. refl) _)
 
   rows-read :
       (rs : List (Row Ref)) (rs′ : List (Row Tree)) → (unfold pooled in Each (RowsOf asTrees w) rs rs′)

@@ -19,7 +19,8 @@ use Rattle.gil.specs.Theory.Trees.{Tree, trees, treeValue}
 use Rattle.gil.specs.Theory.Relation.{Each, nil, cons, each-append, Relation, Values}
 use Rattle.gil.specs.Theory.Together.{Conditions, path, RowsOf, row, Explorings, exploring, cuts-rel, commands-rel}
 use Rattle.gil.specs.Theory.PutIn.{holds, holds-rel, put-row}
-use Rattle.gil.specs.Theory.PoolTree.{counted, asTrees, asTrees-step, treesOf, treesFrom, same-value}
+use Rattle.gil.specs.Theory.PoolTree.{counted, asTrees, asTrees-step, same-value}
+use Rattle.gil.specs.Theory.ReadBack.{treesOf, treesFrom}
 use Rattle.gil.specs.Theory.Exactly.{tree-accounted}
 use Rattle.gil.specs.Theory.Ends.{ends-in}
 

@@ -6,18 +6,24 @@ use mathlib.Core.Path.{_≡_, ap}
 use mathlib.Core.List.{List, map}
 use lib.Dec.{ltb, leb}
 use Rattle.gil.specs.Names.{Program}
-use Rattle.gil.specs.Values.{Constant}
-use Rattle.gil.specs.Machine.{Model, State, End, Next, Moved}
+use Rattle.gil.specs.Tree.{Op}
+use Rattle.gil.specs.Values.{Constant, location, Node}
+use Rattle.gil.specs.Machine.{Model, Val, making, negated, combine, State, End, Next, Moved}
 use Rattle.gil.specs.Rows.{Condition, Reason, Outcome, Path, Row, rowOf, cutFor}
 use Rattle.gil.specs.Rows as Rows
 use Rattle.gil.specs.Explore.{Turn, Exploring, stepped, branched, turned, finish, waitingOn, onTurn, overfull, turnIn, afterMove, advance, begin, afterCommands}
 use Rattle.gil.specs.Explore as Explore
 use Rattle.gil.specs.Theory.Tests.{either, either-of}
-use Rattle.gil.specs.Theory.Relation.{Each, nil, cons, each-length, each-append, each-map, Relation, Laws, States, Ends, Nexts, Grows, Moves, grow-value, grow-state, move-rel, start-rel}
+use Rattle.gil.specs.Theory.Relation.{Each, nil, cons, Values, consts, valued, terms, Acts, give-rel, each-length, each-append, each-map, Relation, Laws, States, Ends, Nexts, Grows, Moves, grow-value, grow-state, move-rel, start-rel}
 use Rattle.gil.specs.Theory.Relation as Relation
 
--- conditions, paths and rows, related part by part
+-- nodes, conditions, paths and rows, related part by part
 module _ {M N : Model} (R : Relation M N) where
+  pub data Nodes (w : M .World) : Node (M .Term) → Node (N .Term) → Type 0 where
+    input : {k : ℕ} → Nodes w (Node.input k) (Node.input k)
+    neg : {a : Val M} {b : Val N} → Values R w a b → Nodes w (Node.neg a) (Node.neg b)
+    bin : {o : Op} {a b : Val M} {a′ b′ : Val N} → Values R w a a′ → Values R w b b′ → Nodes w (Node.bin o a b) (Node.bin o a′ b′)
+
   pub data Conditions (w : M .World) : Condition (M .Term) → Condition (N .Term) → Type 0 where
     condition :
         {t : M .Term} {u : N .Term} {b : Bool} → R .Terms w t u
@@ -53,11 +59,43 @@ module _ {M N : Model} (R : Relation M N) where
         {qs′ : List (Path (N .Term))}
         → R .Worlds w v → Each (RowsOf w) rs rs′ → Each (Paths w) qs qs′ → Explorings (Explore.exploring w rs qs) (Explore.exploring v rs′ qs′)
 
--- in step: the same number of terms made, and no truth known on one side only
+-- in step: no truth is known on one side only, related nodes make related terms, and as many count as made
 pub record InStep {M N : Model} (R : Relation M N) : Type 0 where
-  pub laws : Laws R
   pub unknown : (w : M .World) (t : M .Term) (c : Constant) → R .Valued w t c → ⊥
+  pub sorts : (w : M .World) (t : M .Term) (u : N .Term) → R .Terms w t u → M .sort t ≡ N .sort u
+  pub makes :
+      (w : M .World) (n : Node (M .Term)) (m : Node (N .Term)) → Nodes R w n m → Acts R (Values R) w (making M n) (making N m)
   pub counted : (w : M .World) (v : N .World) → R .Worlds w v → M .made w ≡ N .made v
+
+module _ {M N : Model} {R : Relation M N} (I : InStep R) where
+  not-rel : (w : M .World) (a : Val M) (b : Val N) → Values R w a b → Acts R (Values R) w (negated M a) (negated N b)
+  unfolding negated
+  not-rel w a b consts = give-rel _ _ consts
+  not-rel w a b (valued {t} h) = absurd (I .unknown w t _ h)
+  not-rel w a b (terms h) = I .makes w _ _ (neg (terms h))
+
+  operator-rel :
+      (w : M .World) (o : Op) (a b : Val M) (a′ b′ : Val N)
+      → Values R w a a′ → Values R w b b′ → Acts R (Values R) w (combine M o a b) (combine N o a′ b′)
+  unfolding combine
+  operator-rel w o a b a′ b′ consts consts = give-rel _ _ consts
+  operator-rel w o a b a′ b′ consts (terms k) = I .makes w _ _ (bin consts (terms k))
+  operator-rel w o a b a′ b′ (terms h) consts = I .makes w _ _ (bin (terms h) consts)
+  operator-rel w o a b a′ b′ (terms h) (terms k) = I .makes w _ _ (bin (terms h) (terms k))
+  operator-rel w o a b a′ b′ consts (valued {t} k) = absurd (I .unknown w t _ k)
+  operator-rel w o a b a′ b′ (terms h) (valued {t} k) = absurd (I .unknown w t _ k)
+  operator-rel w o a b a′ b′ (valued {t} h) k = absurd (I .unknown w t _ h)
+
+  pub step-laws : Laws R
+  step-laws =
+      record {
+        terms-sort = I .sorts;
+        valued-sort = λ w t c h. absurd (I .unknown w t c h);
+        no-location = λ w t l h. I .unknown w t (location l) h;
+        inputs = λ w k. I .makes w _ _ input;
+        nots = not-rel;
+        operators = operator-rel;
+      }
 
 module _ {M N : Model} {R : Relation M N} {w w′ : M .World} (g : Grows R w w′) where
   grow-condition : (c : Condition (M .Term)) (c′ : Condition (N .Term)) → Conditions R w c c′ → Conditions R w′ c c′
@@ -154,7 +192,7 @@ module _ {M N : Model} {R : Relation M N} (I : InStep R) (p : Program) where
   advance-rel budget most (exploring {w} {v} k rs (cons (path {n} {s} {s′} h cs) qs)) =
       either (Explorings R) (leb budget n)
       (finish-rel R k rs (cut-rel R Rows.steps _ _ (path h cs)) qs)
-      (afterMove-rel most (move-rel (I .laws) p w v s s′ k h) rs (path h cs) qs)
+      (afterMove-rel most (move-rel (step-laws I) p w v s s′ k h) rs (path h cs) qs)
 
   -- after every command
   pub commands-rel :
