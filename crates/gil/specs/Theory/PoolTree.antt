@@ -88,8 +88,6 @@ pub asTrees-step : InStep asTrees
 unfolding asTrees pooled
 asTrees-step =
     record {
-      unknown = λ w t c h. h;
-      sorts = λ w t u h. h .sorts;
-      makes = making-rel;
+      alongside = record { unknown = λ w t c h. h; sorts = λ w t u h. h .sorts; makes = making-rel };
       counted = λ w ts h. sym (of-length w) ∙ ap length h;
     }

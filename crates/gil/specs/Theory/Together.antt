@@ -59,15 +59,14 @@ module _ {M N : Model} (R : Relation M N) where
         {qs′ : List (Path (N .Term))}
         → R .Worlds w v → Each (RowsOf w) rs rs′ → Each (Paths w) qs qs′ → Explorings (Explore.exploring w rs qs) (Explore.exploring v rs′ qs′)
 
--- in step: no truth is known on one side only, related nodes make related terms, and as many count as made
-pub record InStep {M N : Model} (R : Relation M N) : Type 0 where
+-- terms go with terms alone: no truth is known on one side only, and related nodes make related terms
+pub record Alongside {M N : Model} (R : Relation M N) : Type 0 where
   pub unknown : (w : M .World) (t : M .Term) (c : Constant) → R .Valued w t c → ⊥
   pub sorts : (w : M .World) (t : M .Term) (u : N .Term) → R .Terms w t u → M .sort t ≡ N .sort u
   pub makes :
       (w : M .World) (n : Node (M .Term)) (m : Node (N .Term)) → Nodes R w n m → Acts R (Values R) w (making M n) (making N m)
-  pub counted : (w : M .World) (v : N .World) → R .Worlds w v → M .made w ≡ N .made v
 
-module _ {M N : Model} {R : Relation M N} (I : InStep R) where
+module _ {M N : Model} {R : Relation M N} (I : Alongside R) where
   not-rel : (w : M .World) (a : Val M) (b : Val N) → Values R w a b → Acts R (Values R) w (negated M a) (negated N b)
   unfolding negated
   not-rel w a b consts = give-rel _ _ consts
@@ -86,8 +85,8 @@ module _ {M N : Model} {R : Relation M N} (I : InStep R) where
   operator-rel w o a b a′ b′ (terms h) (valued {t} k) = absurd (I .unknown w t _ k)
   operator-rel w o a b a′ b′ (valued {t} h) k = absurd (I .unknown w t _ h)
 
-  pub step-laws : Laws R
-  step-laws =
+  pub alongside-laws : Laws R
+  alongside-laws =
       record {
         terms-sort = I .sorts;
         valued-sort = λ w t c h. absurd (I .unknown w t c h);
@@ -96,6 +95,11 @@ module _ {M N : Model} {R : Relation M N} (I : InStep R) where
         nots = not-rel;
         operators = operator-rel;
       }
+
+-- in step: and as many terms count as made
+pub record InStep {M N : Model} (R : Relation M N) : Type 0 where
+  pub alongside : Alongside R
+  pub counted : (w : M .World) (v : N .World) → R .Worlds w v → M .made w ≡ N .made v
 
 module _ {M N : Model} {R : Relation M N} {w w′ : M .World} (g : Grows R w w′) where
   grow-condition : (c : Condition (M .Term)) (c′ : Condition (N .Term)) → Conditions R w c c′ → Conditions R w′ c c′
@@ -169,8 +173,8 @@ module _ {M N : Model} {R : Relation M N} (I : InStep R) (p : Program) where
   turned-rel most w (path s cs) (Relation.forks h a b) =
       either-of (Turns R w) (ap (leb most) (each-length cs)) (finishes (cut-rel R Rows.branches _ _ (path s cs)))
       (forks (branched-rel R _ h a (path s cs)) (branched-rel R _ h b (path s cs)))
-  turned-rel most w q (Relation.isTrue {t} h a) = absurd (I .unknown w t _ h)
-  turned-rel most w q (Relation.isFalse {t} h a) = absurd (I .unknown w t _ h)
+  turned-rel most w q (Relation.isTrue {t} h a) = absurd (I .alongside .unknown w t _ h)
+  turned-rel most w q (Relation.isFalse {t} h a) = absurd (I .alongside .unknown w t _ h)
 
   afterMove-rel :
       (most : ℕ) {w : M .World} {m : Moved M} {m′ : Moved N} {rs : List (Row (M .Term))} {rs′ : List (Row (N .Term))}
@@ -192,7 +196,7 @@ module _ {M N : Model} {R : Relation M N} (I : InStep R) (p : Program) where
   advance-rel budget most (exploring {w} {v} k rs (cons (path {n} {s} {s′} h cs) qs)) =
       either (Explorings R) (leb budget n)
       (finish-rel R k rs (cut-rel R Rows.steps _ _ (path h cs)) qs)
-      (afterMove-rel most (move-rel (step-laws I) p w v s s′ k h) rs (path h cs) qs)
+      (afterMove-rel most (move-rel (alongside-laws (I .alongside)) p w v s s′ k h) rs (path h cs) qs)
 
   -- after every command
   pub commands-rel :
