@@ -54,7 +54,7 @@ module _ (count : List Tree → ℕ) (p : Program) (inputs : List ℕ) where
 
   along-next :
       {n : ℕ} {s : State Tree} (h : Along n s) {s′ : State Tree} (s₁ : State ⊥)
-      → plainNext count inputs p (h .through) ≡ on s₁ → Alike count inputs s′ s₁ → Along (suc n) s′
+      → plainNext inputs p (h .through) ≡ on s₁ → Alike count inputs s′ s₁ → Along (suc n) s′
   unfolding runFor ranTo plain plainNext
   along-next {n} h s₁ e a = record { through = s₁; alike = a; runs = runs }
     where
@@ -74,7 +74,7 @@ module _ (count : List Tree → ℕ) (p : Program) (inputs : List ℕ) where
 
   ran-end :
       {n : ℕ} {s : State Tree} (h : Along n s) (e : End Tree) (e′ : End ⊥)
-      → plainNext count inputs p (h .through) ≡ ends e′ → putEnd (putValue (treeValue inputs)) e ≡ e′
+      → plainNext inputs p (h .through) ≡ ends e′ → putEnd (putValue (treeValue inputs)) e ≡ e′
       → (cs : List (Condition Tree)) → Ran (rowOf (ended e) (suc n) (record { state = s; steps = n; conditions = cs }))
   unfolding runFor ranTo plain plainNext putOutcome rowOf
   ran-end {n} {s} h e e′ next i cs =
@@ -84,7 +84,7 @@ module _ (count : List Tree → ℕ) (p : Program) (inputs : List ℕ) where
 
   follows :
       {n : ℕ} {s : State Tree} (h : Along n s) {x : Next Tree} {y : Next ⊥}
-      → plainNext count inputs p (h .through) ≡ y → Follows count inputs x y → After n s x
+      → plainNext inputs p (h .through) ≡ y → Follows count inputs x y → After n s x
   follows h e (TreePlain.goes {s′} a) = moves (along-next h s′ e a)
   follows h e (TreePlain.stops {e = d} {e′} i) = stops (ran-end h d e′ e i)
   follows h e (TreePlain.isTrue {s} t a) = isTrue t (along-next h s e a)

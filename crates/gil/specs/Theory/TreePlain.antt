@@ -17,6 +17,11 @@ use Rattle.gil.specs.Theory.Relation
 use Rattle.gil.specs.Theory.Relation.{Relation, Laws, Values, consts, valued, terms, States, Nexts, Acts, oks, Grows, grow-state, give-rel, start-rel, move-rel}
 use Rattle.gil.specs.Theory.PutIn.{put-value, put-end, same-end, put-state, plainly, plain-value, plain-row}
 
+-- where the plain run goes by one command
+unfoldable pub plainNext : List ℕ → Program → State ⊥ → Next ⊥
+unfolding plain
+plainNext inputs p s = move (plain inputs) p tt s .next
+
 module _ (count : List Tree → ℕ) (inputs : List ℕ) where
   unfoldable pub onInputs : Relation (trees count) (plain inputs)
   unfolding plain
@@ -83,10 +88,6 @@ module _ (count : List Tree → ℕ) (inputs : List ℕ) where
     isTrue : {t : Tree} {a b : State Tree} {s : State ⊥} → valueIn inputs t ≡ boolean true → Alike a s → Follows (fork t a b) (on s)
     isFalse : {t : Tree} {a b : State Tree} {s : State ⊥} → valueIn inputs t ≡ boolean false → Alike b s → Follows (fork t a b) (on s)
 
-  unfoldable pub plainNext : Program → State ⊥ → Next ⊥
-  unfolding plain
-  plainNext p s = move (plain inputs) p tt s .next
-
   followed : (w : List Tree) {x : Next Tree} {y : Next ⊥} → (unfold plain in Nexts onInputs w x y) → Follows x y
   unfolding Alike onInputs plain
   followed w (Relation.goes h) = goes (grow-state (still w []) h)
@@ -99,7 +100,7 @@ module _ (count : List Tree → ℕ) (inputs : List ℕ) where
 
   pub follow :
       (p : Program) (w : List Tree) (s : State Tree) (s′ : State ⊥) → Alike s s′
-      → Follows (move (trees count) p w s .next) (plainNext p s′)
+      → Follows (move (trees count) p w s .next) (plainNext inputs p s′)
   unfolding Alike onInputs plain plainNext
   follow p w s s′ h =
       let m = move-rel onInputs-laws p w tt s s′ tt (grow-state (still [] w) h) in
