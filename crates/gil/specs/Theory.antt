@@ -1,6 +1,6 @@
 -- Demand 3 proved over the definitions; what is proved is said in Demand3. In order: two models side by side (Relation), their explorations
 -- (Together), their rows with inputs put in (PutIn); the two instances, trees beside plain values (TreePlain) and the pool beside trees
--- (PoolTree); exactly one is met (Exactly), the exploration ends (Ends), and both over the pool (Pooled, AsTerms). Assumes nothing.
+-- (ReadBack, PoolTree); exactly one is met (Exactly), the exploration ends (Ends), and both over the pool (Pooled, AsTerms). Assumes nothing.
 pub mod Tests
 pub mod Trees
 pub mod Relation
