@@ -11,4 +11,7 @@ pub mod Pool
 pub mod Layout
 pub mod Calls
 pub mod Printed
+pub mod Accounts
+pub mod Theory
+pub mod Demand3
 pub mod Cases
