@@ -1,1 +1,5 @@
 pub mod Located
+pub mod Sound
+pub mod Inputs
+pub mod Terms
+pub mod Laws

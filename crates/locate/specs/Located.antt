@@ -27,12 +27,15 @@ operandWord vs tag w = if? (ltb tag 4) w (valueWord vs w)
 unfoldable pub opValue : (kind x y : ℕ) → ℕ
 opValue kind x y = if? (eqb kind 2) (truthWord (eqb x 0)) (if? (ltb 8 kind) 0 (workWord (kind + 2) x y))
 
--- the value of term k of a pool, by the values of the terms before
+-- a term's value, from its five words and the values of the terms before: its input, or its operator worked out
+unfoldable pub termOf : (inputs vs : List ℕ) → (kind t x u y : ℕ) → ℕ
+termOf inputs vs kind t x u y =
+    if? (eqb kind 1) (4294967296 + wordAt inputs (4 * x)) (opValue kind (operandWord vs t x) (operandWord vs u y))
+
 unfoldable pub termValue : (pool inputs vs : List ℕ) → ℕ → ℕ
 termValue pool inputs vs k =
-    if? (eqb (wordAt pool (20 * k)) 1) (4294967296 + wordAt inputs (4 * wordAt pool (20 * k + 8)))
-    (opValue (wordAt pool (20 * k)) (operandWord vs (wordAt pool (20 * k + 4)) (wordAt pool (20 * k + 8)))
-    (operandWord vs (wordAt pool (20 * k + 12)) (wordAt pool (20 * k + 16))))
+    termOf inputs vs (wordAt pool (20 * k)) (wordAt pool (20 * k + 4)) (wordAt pool (20 * k + 8)) (wordAt pool (20 * k + 12))
+    (wordAt pool (20 * k + 16))
 
 -- the values of the first k terms, over `vs`
 unfoldable pub valuesTo : (pool inputs vs : List ℕ) → ℕ → List ℕ

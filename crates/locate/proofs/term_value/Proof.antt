@@ -1,5 +1,5 @@
 use borrow.Author.Tests.{eq-eqb, ne-eqb}
-use Rattle.locate.specs.Located.{termValue}
+use Rattle.locate.specs.Located.{termValue, termOf}
 use borrow.Author.Needs.{needs}
 use Rattle.locate.proofs.term_value.Statement.{statement}
 use Rattle.locate.proofs.term_value.Tie as tie
@@ -44,7 +44,7 @@ number-requires c κs = search needs
 
 -- src/lib.rt:57:9
 returns : tie.Need-returns
-unfolding termValue
+unfolding termValue termOf
 returns c = simp (← c .before .before .before .before .word-at .ensures, ← c .before .before .before .word-at2 .ensures, ← c .before .word-at3 .ensures, eq-eqb _ _ (c .before .before .if1 .taken)) (c .number .ensures)
 
 -- src/lib.rt:59:50
@@ -85,7 +85,7 @@ op-value-requires c κs = search needs
 
 -- src/lib.rt:50:1
 returns-2 : tie.Need-returns-2
-unfolding termValue
+unfolding termValue termOf
 returns-2 c = simp (← c .before .before .before .before .before .before .before .before .word-at .ensures, ← c .before .before .before .before .before .before .before .word-at2 .ensures, ← c .before .before .before .before .before .word-at4 .ensures, ← c .before .before .before .word-at5 .ensures, ← c .before .before .word-at6 .ensures, ← c .before .before .before .before .operand .ensures, ← c .before .operand2 .ensures, ne-eqb _ _ (c .before .before .before .before .before .before .if1 .left)) (c .op-value .ensures)
 
 pub term-value-spec : {M : Type 1} → statement M
