@@ -3,3 +3,4 @@ pub mod Sound
 pub mod Inputs
 pub mod Terms
 pub mod Laws
+pub mod Exploring
