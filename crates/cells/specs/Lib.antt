@@ -1,4 +1,0 @@
-pub mod Cells
-pub mod Laws
-pub mod Order
-pub mod Machine
