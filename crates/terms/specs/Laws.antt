@@ -42,23 +42,23 @@ pub record Engine (M : Model) : Type 1 where
   pub tagged : {t : M .Term} {x : ℕ} → TermAs t x → TermTag (M .sort t) x
   -- where an operand is a term
   pub makesBin :
-    {w : M .World} {pool : List ℕ} {count : ℕ} {a b : Value (M .Term)} {x y : ℕ} (o : Op) → M .Term
-    → WorldAs w pool count
-    → ValueAs TermAs a x
-    → ValueAs TermAs b y
-    → MadeAs TermAs WorldAs (M .make w (bin o a b)) (termIn (opWord o) x y pool count)
+      {w : M .World} {pool : List ℕ} {count : ℕ} {a b : Value (M .Term)} {x y : ℕ} (o : Op) → M .Term
+      → WorldAs w pool count
+      → ValueAs TermAs a x
+      → ValueAs TermAs b y
+      → MadeAs TermAs WorldAs (M .make w (bin o a b)) (termIn (opWord o) x y pool count)
   pub makesNeg :
-    {w : M .World} {pool : List ℕ} {count : ℕ} {t : M .Term} {x : ℕ}
-    → WorldAs w pool count
-    → TermAs t x
-    → MadeAs TermAs WorldAs (M .make w (neg (term t)))
+      {w : M .World} {pool : List ℕ} {count : ℕ} {t : M .Term} {x : ℕ}
+      → WorldAs w pool count
+      → TermAs t x
+      → MadeAs TermAs WorldAs (M .make w (neg (term t)))
       (did (21474836480 + count) (poolWith (nodeOf 2 x 0) count pool) ((count + 1) % 4294967296))
   pub known : Bool
   pub inputs : List ℕ
   pub makesInput :
-    {w : M .World} {pool : List ℕ} {count : ℕ} (i : ℕ) → i < 16
-    → WorldAs w pool count
-    → MadeAs TermAs WorldAs (M .make w (input i)) (freshIn known inputs i pool count)
+      {w : M .World} {pool : List ℕ} {count : ℕ} (i : ℕ) → i < 16
+      → WorldAs w pool count
+      → MadeAs TermAs WorldAs (M .make w (input i)) (freshIn known inputs i pool count)
 
 tag-sort : {s : Sort} {x : ℕ} → TermTag s x → sortWord x ≡ sortCode s
 unfolding sortCode
@@ -98,9 +98,9 @@ module _ {M : Model} (E : Engine M) where
       → As a x
       → As b y
       → EvalAs (combine M o a b w)
-        (if? (ltb x 17179869184)
-        (if? (ltb y 17179869184) (did (workWord (opWord o) (x % 4294967296) (y % 4294967296)) pool count) (termIn (opWord o) x y pool count))
-        (termIn (opWord o) x y pool count))
+      (if? (ltb x 17179869184)
+      (if? (ltb y 17179869184) (did (workWord (opWord o) (x % 4294967296) (y % 4294967296)) pool count) (termIn (opWord o) x y pool count))
+      (termIn (opWord o) x y pool count))
   unfolding combine give sortIn
   combined o {x} {y} e h (constAs p) (constAs q) =
       simp (lt-ltb x 17179869184 (const-high p), lt-ltb y 17179869184 (const-high q)) (gives h (constAs (work-law o e p q)))
@@ -118,11 +118,11 @@ module _ {M : Model} (E : Engine M) where
       → As a x
       → As b y
       → EvalAs (fitted M f o a b w)
-        (if? (eqb (fitCode f) 1) (did 2 pool count)
-        (if? (eqb (fitCode f) 2) (did 8589934592 pool count)
-        (if? (ltb x 17179869184)
-        (if? (ltb y 17179869184) (did (workWord (opWord o) (x % 4294967296) (y % 4294967296)) pool count) (termIn (opWord o) x y pool count))
-        (termIn (opWord o) x y pool count))))
+      (if? (eqb (fitCode f) 1) (did 2 pool count)
+      (if? (eqb (fitCode f) 2) (did 8589934592 pool count)
+      (if? (ltb x 17179869184)
+      (if? (ltb y 17179869184) (did (workWord (opWord o) (x % 4294967296) (y % 4294967296)) pool count) (termIn (opWord o) x y pool count))
+      (termIn (opWord o) x y pool count))))
   unfolding fitted fitCode stop give truthWord
   fitted-as o right e h p q = combined o e h p q
   fitted-as o wrong e h p q = errs {n = 2} h refl (omega arith)
@@ -143,8 +143,8 @@ module _ {M : Model} (E : Engine M) where
       → E .WorldAs w pool count
       → As a x
       → EvalAs (negated M a w)
-        (if? (ltb x 17179869184) (did (truthWord (eqb (x % 4294967296) 0)) pool count)
-        (did (21474836480 + count) (poolWith (nodeOf 2 x 0) count pool) ((count + 1) % 4294967296)))
+      (if? (ltb x 17179869184) (did (truthWord (eqb (x % 4294967296) 0)) pool count)
+      (did (21474836480 + count) (poolWith (nodeOf 2 x 0) count pool) ((count + 1) % 4294967296)))
   unfolding negated sortIn sortOf give
   negated-as e h (constAs (aNumber k)) = let z : _≡_ {A = ℕ} 0 1 = cc in absurd (omega arith)
   negated-as e h (constAs (aTruth {b})) =
@@ -157,10 +157,10 @@ module _ {M : Model} (E : Engine M) where
       → E .WorldAs w pool count
       → As a x
       → EvalAs ((must (sameSort booleans s) 2 >> negated M a) w)
-        (if? (eqb (sortCode s) 2)
-        (if? (ltb x 17179869184) (did (truthWord (eqb (x % 4294967296) 0)) pool count)
-        (did (21474836480 + count) (poolWith (nodeOf 2 x 0) count pool) ((count + 1) % 4294967296)))
-        (did 2 pool count))
+      (if? (eqb (sortCode s) 2)
+      (if? (ltb x 17179869184) (did (truthWord (eqb (x % 4294967296) 0)) pool count)
+      (did (21474836480 + count) (poolWith (nodeOf 2 x 0) count pool) ((count + 1) % 4294967296)))
+      (did 2 pool count))
   unfolding must sameSort sortCode stop give andThen _>>_
   negate-by numbers e h p = errs {n = 2} h refl (omega arith)
   negate-by booleans e h p = negated-as e h p

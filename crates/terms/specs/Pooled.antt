@@ -47,7 +47,7 @@ unfolding wordBytes
 word-bytes k =
     let f : k ≡ k % 4294967296 + k / 4294967296 * 16777216 * 256 = omega arith in
     let e0 : k % 4294967296 % 256 ≡ k % 256 =
-        sym (ap (λ (n : ℕ). n % 256) f ∙ add-mul-mod-self-right (k % 4294967296) (k / 4294967296 * 16777216) 256) in
+    sym (ap (λ (n : ℕ). n % 256) f ∙ add-mul-mod-self-right (k % 4294967296) (k / 4294967296 * 16777216) 256) in
     let e1 : k % 4294967296 / 256 % 256 ≡ k / 256 % 256 = byte-kept 256 65536 k (omega arith) (omega arith) in
     let e2 : k % 4294967296 / 65536 % 256 ≡ k / 65536 % 256 = byte-kept 65536 256 k (omega arith) (omega arith) in
     let e3 : k % 4294967296 / 16777216 % 256 ≡ k / 16777216 % 256 = byte-kept 16777216 1 k (omega arith) (omega arith) in
@@ -195,7 +195,7 @@ pool-grows w n true e =
     let h : length w < 2048 = ltb-true _ _ e in
     let g : length (kept w) ≡ 20 * length w = ap length (kept-few w (omega arith)) ∙ nodes-length w in
     let f : leb (20 * length w + 20) (length (room 40960 (kept w))) ≡ true =
-        le-leb (20 * length w + 20) (length (room 40960 (kept w))) (omega (arith, room-length 40960 (kept w) (kept-length w))) in
+    le-leb (20 * length w + 20) (length (room 40960 (kept w))) (omega (arith, room-length 40960 (kept w) (kept-length w))) in
     rw f
     (ap (λ (k : ℕ). sets (room 40960 (kept w)) k (nodeBytes n)) (sym g)
     ∙ fill-room 40960 (kept w) (nodeBytes n) (omega (arith, node-length n))
@@ -203,7 +203,7 @@ pool-grows w n true e =
 pool-grows w n false e =
     let h : 2048 ≤ length w = ltb-false _ _ e in
     let f : leb (20 * length w + 20) (length (room 40960 (kept w))) ≡ false =
-        lt-leb (20 * length w + 20) (length (room 40960 (kept w))) (omega (arith, room-length 40960 (kept w) (kept-length w))) in
+    lt-leb (20 * length w + 20) (length (room 40960 (kept w))) (omega (arith, room-length 40960 (kept w) (kept-length w))) in
     rw f (ap (room 40960) (sym (kept-no-more w n h)))
 
 made-as : {w : Pool} {pool : List ℕ} {count : ℕ} (n : Node Ref) (b : List ℕ) → b ≡ nodeBytes n → PoolAs w pool count
@@ -211,9 +211,9 @@ made-as : {w : Pool} {pool : List ℕ} {count : ℕ} (n : Node Ref) (b : List �
 made-as {w} {pool} {count} n b e h =
     record {
       counted =
-        ap (λ (k : ℕ). (k + 1) % 4294967296) (h .counted)
-        ∙ mod-add-mod (length w) 4294967296 1
-        ∙ ap (λ (k : ℕ). k % 4294967296) (sym (length-append w (n ∷ [])));
+          ap (λ (k : ℕ). (k + 1) % 4294967296) (h .counted)
+          ∙ mod-add-mod (length w) 4294967296 1
+          ∙ ap (λ (k : ℕ). k % 4294967296) (sym (length-append w (n ∷ [])));
       bytes = λ few. grown (omega (arith, length-append w (n ∷ [])));
     }
   where
@@ -250,13 +250,13 @@ pooledEngine =
       WorldAs = PoolAs;
       tagged = ref-tagged;
       makesBin = λ {w} {pool} {count} {a} {b} {x} {y} o t h p q.
-        record {
-          world = made-as (bin o a b) _ (ap (λ (k : ℕ). nodeOf k x y) (op-code o) ∙ two-values (opCode o) p q) h;
-          value = op-made o h;
-        };
+          record {
+            world = made-as (bin o a b) _ (ap (λ (k : ℕ). nodeOf k x y) (op-code o) ∙ two-values (opCode o) p q) h;
+            value = op-made o h;
+          };
       makesNeg = λ h p. record { world = made-as (neg (term _)) _ (one-value 2 (termAs p)) h; value = boolean-made h };
       known = false;
       inputs = [];
       makesInput = λ i few h.
-        record { world = made-as (input i) _ (one-value 1 (constAs (aNumber (omega arith)))) h; value = number-made h };
+          record { world = made-as (input i) _ (one-value 1 (constAs (aNumber (omega arith)))) h; value = number-made h };
     }
