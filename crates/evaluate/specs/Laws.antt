@@ -81,7 +81,7 @@ module _ {M : Model} (E : Engine M) where
       {f : Value (M .Term) → M .World → Result (M .World) (Value (M .Term))} {g : ℕ → List ℕ → ℕ → Did}
       → EvalAs E r d
       → ((w : M .World) (v : Value (M .Term)) (x : ℕ) (pool : List ℕ) (count : ℕ)
-        → E .WorldAs w pool count → As E v x → EvalAs E (f v w) (g x pool count))
+      → E .WorldAs w pool count → As E v x → EvalAs E (f v w) (g x pool count))
       → EvalAs E (andThen r f) (andThenIn d g)
   unfolding andThen andThenIn
   then-as {d} (gives {w} {v} h p) k = simp (le-ltb (d .out) 4294967296 (value-low E p)) (k w v (d .out) (d .pool) (d .count) h p)
@@ -102,7 +102,7 @@ module _ {M : Model} (E : Engine M) where
         → drop at code ≡ k ∷ w ∷ rest
         → leafOf code store frame k w ≡ 0
         → operandIn code store frame (suc d) at pool count
-          ≡ andThenIn (operandIn code store frame d (at + 2) pool count) (secondBy code store frame (operandIn code store frame d) k (at + 2 + w))
+        ≡ andThenIn (operandIn code store frame d (at + 2) pool count) (secondBy code store frame (operandIn code store frame d) k (at + 2 + w))
     unfolding operandIn operandBy operatorIn operatorBy
     at-operator d at pool count e f =
         simp (leaf-is at e f, lt-ltb at 18993 (inside code at e whole), first-word code at e, second-word code at e)
