@@ -1,0 +1,156 @@
+-- Laws of the cells in use that the loops go by. Assumes nothing.
+use Prim.Native.Nat.{ℕ, zero, suc, _+_, _-_, _<_, _≤_, min}
+use mathlib.Core.Bool.{Bool, true, false, _||_}
+use mathlib.Core.Path.{_≡_, refl, sym, _∙_, ap, ap₂}
+use mathlib.Core.List.{List, [], _∷_, _++_, map, map-append, append-nil}
+use mathlib.Core.Option.{Option, none, some}
+use native.Mathlib.Numerals.{add-one}
+use native.Mathlib.Omega.{arith}
+use lib.ListN.{length, getD, take, drop, set, length-take, drop-of-length-le, take-append-drop, length-map}
+use lib.Dec.{eqb}
+use lib.Seq.{drop-cons, getD-take, take-suc-set, drop-set-lt, append-snoc, take-all, length-take-le}
+use Rattle.gil.specs.Values.{Value, term}
+use Rattle.gil.specs.Machine as Machine
+use Rattle.gil.specs.Machine.{isAt, isBefore, cellAt, putCell, withoutCells}
+use Rattle.cells.specs.declared.Cell.{Cell}
+use Rattle.cells.specs.declared.Place.{Place}
+use Rattle.cells.specs.declared.Place.the-variants.{Holds, Free}
+use Rattle.cells.specs.Held.{cellOf, noCell, heldIn, fromIn, foundIn, placeFrom, shiftIn, insertIn}
+
+-- those in use from a place on: none past the end, else the one that stands there and those behind it
+module _ {A : Type 0} (i n : ℕ) (l : List A) where
+  pub from-none : n ≤ i → drop i (take n l) ≡ []
+  from-none h = drop-of-length-le (take n l) {i = i} (omega (arith, length-take n l))
+
+  pub from-end : length l ≤ i → drop i (take n l) ≡ []
+  from-end h = drop-of-length-le (take n l) {i = i} (omega (arith, length-take n l))
+
+  pub from-more : (d : A) → i < n → i < length l → drop i (take n l) ≡ getD l i d ∷ drop (i + 1) (take n l)
+  from-more d hn hl =
+      drop-cons (take n l) i d (omega (arith, length-take n l))
+      ∙ ap₂ (λ (a : A) (k : ℕ). a ∷ drop k (take n l)) (getD-take n l i d hn) (sym (add-one i))
+
+-- the first cell decides
+module _ {T : Type 0} (l q : ℕ) (c : Machine.Cell T) (cs : List (Machine.Cell T)) where
+  pub at-here : isAt l q c ≡ true → cellAt l q (c ∷ cs) ≡ some (c .value)
+  unfolding cellAt
+  at-here e = ap (λ (b : Bool). elim b [ true ↦ some (c .value) | false ↦ cellAt l q cs ]) e
+
+  pub at-later : isAt l q c ≡ false → cellAt l q (c ∷ cs) ≡ cellAt l q cs
+  unfolding cellAt
+  at-later e = ap (λ (b : Bool). elim b [ true ↦ some (c .value) | false ↦ cellAt l q cs ]) e
+
+module _ {T : Type 0} (l : ℕ) (c : Machine.Cell T) (cs : List (Machine.Cell T)) where
+  pub without-here : eqb l (c .location) ≡ true → withoutCells l (c ∷ cs) ≡ withoutCells l cs
+  unfolding withoutCells
+  without-here e = ap (λ (b : Bool). elim b [ true ↦ withoutCells l cs | false ↦ c ∷ withoutCells l cs ]) e
+
+  pub without-other : eqb l (c .location) ≡ false → withoutCells l (c ∷ cs) ≡ c ∷ withoutCells l cs
+  unfolding withoutCells
+  without-other e = ap (λ (b : Bool). elim b [ true ↦ withoutCells l cs | false ↦ c ∷ withoutCells l cs ]) e
+
+module _ (l q : ℕ) (k : ℕ) (c : Machine.Cell ℕ) (cs : List (Machine.Cell ℕ)) where
+  place-by : Bool → Bool → Place
+  place-by a b = elim a [ true ↦ Holds k | false ↦ elim b [ true ↦ Free k | false ↦ placeFrom l q (suc k) cs ] ]
+
+  pub place-here : isAt l q c ≡ true → placeFrom l q k (c ∷ cs) ≡ Holds k
+  unfolding placeFrom place-by
+  place-here e = ap (λ (a : Bool). place-by a (isBefore l q c)) e
+
+  pub place-before : isAt l q c ≡ false → isBefore l q c ≡ true → placeFrom l q k (c ∷ cs) ≡ Free k
+  unfolding placeFrom place-by
+  place-before e f = ap₂ (λ (a b : Bool). place-by a b) e f
+
+  pub place-later : isAt l q c ≡ false → isBefore l q c ≡ false → placeFrom l q k (c ∷ cs) ≡ placeFrom l q (suc k) cs
+  unfolding placeFrom place-by
+  place-later e f = ap₂ (λ (a b : Bool). place-by a b) e f
+
+-- a loop that stands at place i: nothing is left
+module _ (i n : ℕ) (cells : List Cell) where
+  pub found-none : (l q : ℕ) → drop i (take n cells) ≡ [] → foundIn (cellAt l q (fromIn i n cells)) ≡ 0
+  unfolding cellAt
+  found-none l q e = ap (λ (cs : List Cell). foundIn (cellAt l q (map cellOf cs))) e
+
+  pub place-none : (l q : ℕ) → drop i (take n cells) ≡ [] → placeFrom l q i (fromIn i n cells) ≡ Free i
+  unfolding placeFrom
+  place-none l q e = ap (λ (cs : List Cell). placeFrom l q i (map cellOf cs)) e
+
+  pub without-none : (l : ℕ) → drop i (take n cells) ≡ [] → withoutCells l (fromIn i n cells) ≡ []
+  unfolding withoutCells
+  without-none l e = ap (λ (cs : List Cell). withoutCells l (map cellOf cs)) e
+
+  -- the cell that stands there, and the rest
+  module _ (hn : i < n) (hl : i < length cells) where
+    split : fromIn i n cells ≡ cellOf (getD cells i noCell) ∷ fromIn (i + 1) n cells
+    split = ap (map cellOf) (from-more i n cells noCell hn hl)
+
+    pub found-here : (l q : ℕ) → isAt l q (cellOf (getD cells i noCell)) ≡ true
+        → foundIn (cellAt l q (fromIn i n cells)) ≡ getD cells i noCell .value
+    found-here l q e = ap (λ (cs : List (Machine.Cell ℕ)). foundIn (cellAt l q cs)) split ∙ ap foundIn (at-here l q _ _ e)
+
+    pub found-later : (l q : ℕ) → isAt l q (cellOf (getD cells i noCell)) ≡ false
+        → foundIn (cellAt l q (fromIn i n cells)) ≡ foundIn (cellAt l q (fromIn (i + 1) n cells))
+    found-later l q e = ap (λ (cs : List (Machine.Cell ℕ)). foundIn (cellAt l q cs)) split ∙ ap foundIn (at-later l q _ _ e)
+
+    pub placed-here : (l q : ℕ) → isAt l q (cellOf (getD cells i noCell)) ≡ true → placeFrom l q i (fromIn i n cells) ≡ Holds i
+    placed-here l q e = ap (placeFrom l q i) split ∙ place-here l q i _ _ e
+
+    pub placed-before : (l q : ℕ) → isAt l q (cellOf (getD cells i noCell)) ≡ false → isBefore l q (cellOf (getD cells i noCell)) ≡ true
+        → placeFrom l q i (fromIn i n cells) ≡ Free i
+    placed-before l q e f = ap (placeFrom l q i) split ∙ place-before l q i _ _ e f
+
+    pub placed-later : (l q : ℕ) → isAt l q (cellOf (getD cells i noCell)) ≡ false → isBefore l q (cellOf (getD cells i noCell)) ≡ false
+        → placeFrom l q i (fromIn i n cells) ≡ placeFrom l q (i + 1) (fromIn (i + 1) n cells)
+    placed-later l q e f =
+        ap (placeFrom l q i) split
+        ∙ place-later l q i _ _ e f
+        ∙ ap (λ (k : ℕ). placeFrom l q k (fromIn (i + 1) n cells)) (sym (add-one i))
+
+    pub taken-out : (l : ℕ) → eqb l (getD cells i noCell .location .0) ≡ true
+        → withoutCells l (fromIn i n cells) ≡ withoutCells l (fromIn (i + 1) n cells)
+    taken-out l e = ap (withoutCells l) split ∙ without-here l _ _ e
+
+    pub left-in : (l : ℕ) → eqb l (getD cells i noCell .location .0) ≡ false
+        → withoutCells l (fromIn i n cells) ≡ cellOf (getD cells i noCell) ∷ withoutCells l (fromIn (i + 1) n cells)
+    left-in l e = ap (withoutCells l) split ∙ without-other l _ _ e
+
+-- a cell carried upward by one
+module _ (held : ℕ) (i : ℕ) (c : Cell) (out : List Cell) where
+  pub carried-up : i < 32 → i ≤ held → length out ≡ 32
+      → insertIn held i c out ≡ insertIn held (i + 1) (getD out i noCell) (set out i c)
+  unfolding insertIn shiftIn
+  carried-up h k len =
+      let x = getD out i noCell in
+      let n = min (held + 1) 32 - (i + 1) in
+      let e : min (held + 1) 32 - i ≡ suc n = omega arith in
+      let inside : i < length out = omega arith in
+      let f : drop i out ≡ x ∷ drop (suc i) out = drop-cons out i noCell inside in
+      let g : drop (suc i) (set out i c) ≡ drop (suc i) out = drop-set-lt (suc i) out i c (omega arith) in
+      let t : take (suc i) (set out i c) ≡ take i out ++ (c ∷ []) = take-suc-set out i c inside in
+      ap₂ (λ (m : ℕ) (l : List Cell). take i out ++ shiftIn m c l) e f
+      ∙ sym (append-snoc (take i out) c (shiftIn n x (drop (suc i) out)))
+      ∙ ap₂ (λ (a b : List Cell). a ++ shiftIn n x b) (sym t) (sym g)
+      ∙ ap (λ (j : ℕ). take j (set out i c) ++ shiftIn n x (drop j (set out i c))) (sym (add-one i))
+
+  pub carried-all : min (held + 1) 32 ≤ i → insertIn held i c out ≡ out
+  unfolding insertIn shiftIn
+  carried-all h =
+      let e : min (held + 1) 32 - i ≡ 0 = omega arith in
+      ap (λ (m : ℕ). take i out ++ shiftIn m c (drop i out)) e ∙ take-append-drop i out
+
+-- the cells kept so far, and one more; at the end they are all
+module _ (n : ℕ) (out : List Cell) where
+  pub kept-more : (c : Cell) (w : List (Machine.Cell ℕ)) → n < length out
+      → map cellOf (take n out) ++ cellOf c ∷ w ≡ map cellOf (take (n + 1) (set out n c)) ++ w
+  kept-more c w h =
+      sym
+      (ap (λ (k : ℕ). map cellOf (take k (set out n c)) ++ w) (add-one n)
+      ∙ ap (λ (l : List Cell). map cellOf l ++ w) (take-suc-set out n c h)
+      ∙ ap (λ (l : List (Machine.Cell ℕ)). l ++ w) (map-append cellOf (take n out) (c ∷ []))
+      ∙ append-snoc (map cellOf (take n out)) (cellOf c) w)
+
+  pub kept-all : (rest w : List (Machine.Cell ℕ)) → n ≤ length out → rest ≡ [] → map cellOf (take n out) ++ rest ≡ w → heldIn (length w) out ≡ w
+  kept-all rest w h over e =
+      let f : map cellOf (take n out) ≡ w = sym (append-nil (map cellOf (take n out))) ∙ ap (λ (l : List (Machine.Cell ℕ)). map cellOf (take n out) ++ l) (sym over) ∙ e in
+      let g : length w ≡ n = sym (ap length f) ∙ length-map (take n out) cellOf ∙ length-take-le n out h in
+      ap (λ (k : ℕ). heldIn k out) g ∙ f

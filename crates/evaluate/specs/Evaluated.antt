@@ -1,0 +1,49 @@
+-- What the functions of this crate answer and leave, on words. Assumes nothing.
+use Prim.Native.Nat.{ℕ, zero, suc, _+_, _*_}
+use mathlib.Core.List.{List}
+use lib.ListN.{getD}
+use lib.Dec.{ltb, eqb}
+use Rattle.values.specs.Packed.{if?}
+use Rattle.terms.specs.Made.{Did, did, operateIn, negateIn}
+
+-- actions in a row: an error number ends them
+unfoldable pub andThenIn : Did → (ℕ → List ℕ → ℕ → Did) → Did
+andThenIn d f = if? (ltb (d .out) 4294967296) d (f (d .out) (d .pool) (d .count))
+
+unfoldable pub variableIn : List ℕ → ℕ → ℕ → ℕ
+variableIn store frame x =
+    if? (ltb (19 * frame + x) 152) (if? (eqb (getD store (19 * frame + x) 0) 0) 1 (getD store (19 * frame + x) 0)) 1
+
+module _ (code store : List ℕ) (frame : ℕ) where
+  -- a node that is no operator, by its two words
+  unfoldable pub leafOf : ℕ → ℕ → ℕ
+  leafOf kind w =
+      if? (eqb kind 1) (4294967296 + w) (if? (eqb kind 2) (8589934592 + w) (if? (eqb kind 3) (variableIn store frame w) 0))
+
+  unfoldable pub leafIn : ℕ → ℕ
+  leafIn at = if? (ltb at 18993) (leafOf (getD code at 0) (getD code (at + 1) 0)) 1
+
+  -- an operand, where an operator's evaluation is known
+  unfoldable pub operandBy : (ℕ → List ℕ → ℕ → Did) → ℕ → List ℕ → ℕ → Did
+  operandBy operator at pool count = if? (eqb (leafIn at) 0) (operator at pool count) (did (leafIn at) pool count)
+
+  -- an operator, where its operands' evaluation is known
+  unfoldable pub secondBy : (ℕ → List ℕ → ℕ → Did) → ℕ → ℕ → ℕ → List ℕ → ℕ → Did
+  secondBy operand kind second a pool count =
+      if? (eqb kind 4) (negateIn a pool count) (andThenIn (operand second pool count) (operateIn kind a))
+
+  unfoldable pub operatorBy : (ℕ → List ℕ → ℕ → Did) → ℕ → List ℕ → ℕ → Did
+  operatorBy operand at pool count =
+      if? (ltb at 18993)
+      (andThenIn (operand (at + 2) pool count) (secondBy operand (getD code at 0) (at + 2 + getD code (at + 1) 0)))
+      (did 1 pool count)
+
+  unfoldable pub operatorIn : ℕ → ℕ → List ℕ → ℕ → Did
+  operatorIn zero at pool count = did 1 pool count
+  operatorIn (suc d) at pool count = operatorBy (operandBy (operatorIn d)) at pool count
+
+  unfoldable pub operandIn : ℕ → ℕ → List ℕ → ℕ → Did
+  operandIn d at pool count = operandBy (operatorIn d) at pool count
+
+  unfoldable pub evaluateIn : ℕ → List ℕ → ℕ → Did
+  evaluateIn at pool count = operandIn 8 at pool count

@@ -1,0 +1,172 @@
+-- On the words of an expression tree, where they stand, evaluation over words is document 01's evaluation of the tree, for every model that
+-- stands in words. Assumes nothing.
+use Prim.Native.Nat.{ℕ, zero, suc, _+_, _*_, _<_, _≤_}
+use mathlib.Core.Bool.{Bool, true, false}
+use mathlib.Core.Path.{_≡_, refl, sym, _∙_, ap}
+use mathlib.Core.List.{List, [], _∷_, _++_, append-assoc}
+use mathlib.Core.Option.{Option, none, some}
+use native.Mathlib.Nat.{add-zero}
+use native.Mathlib.Numerals.{add-one}
+use native.Mathlib.Omega.{arith}
+use lib.ListN.{length, getD, drop, length-drop}
+use lib.Seq.{getD-drop, drop-drop, drop-append-seam}
+use lib.Dec.{ltb, eqb}
+use borrow.Author.Tests.{eq-eqb, ne-eqb, lt-ltb, le-ltb}
+use Rattle.gil.specs.Tree.{Op, plus, minus, equal, less, and, or, Expr, num, bool, var, neg, bin}
+use Rattle.gil.specs.Values.{Value, boolean}
+use Rattle.gil.specs.Layout.{bit}
+use Rattle.gil.specs.Machine.{Model, Store, Result, ok, err, andThen, _>>=_, give, stop, there, eval, negate, operate}
+use Rattle.code.specs.Code.{opWord, exprWords}
+use Rattle.code.specs.WellFormed.{ExprFits, aNumber, aTruth, aVariable, aNot, anOperator}
+use Rattle.values.specs.Packed.{if?, truthWord}
+use Rattle.values.specs.Laws as Values
+use Rattle.terms.specs.Made.{Did, did, operateIn, negateIn}
+use Rattle.terms.specs.Laws.{Engine, ValueAs, constAs, As, EvalAs, gives, errs, value-low, operate-as, negate-as}
+use Rattle.evaluate.specs.Evaluated.{andThenIn, variableIn, leafOf, leafIn, operandBy, secondBy, operatorBy, operatorIn, operandIn, evaluateIn}
+
+-- an expression's words stand at a place
+pub record Placed (code : List ℕ) (at : ℕ) (e : Expr ℕ) : Type 0 where
+  pub rest : List ℕ
+  pub words : drop at code ≡ exprWords e ++ rest
+
+-- the first two words of what stands at a place, and what stands behind them
+module _ (code : List ℕ) (at : ℕ) {k w : ℕ} {rest : List ℕ} (e : drop at code ≡ k ∷ w ∷ rest) where
+  first-word : getD code at 0 ≡ k
+  first-word = ap (λ (n : ℕ). getD code n 0) (sym (add-zero at)) ∙ sym (getD-drop at code 0 0) ∙ ap (λ (l : List ℕ). getD l 0 0) e
+
+  second-word : getD code (at + 1) 0 ≡ w
+  second-word = sym (getD-drop at code 1 0) ∙ ap (λ (l : List ℕ). getD l 1 0) e
+
+  behind : drop (at + 2) code ≡ rest
+  behind = sym (drop-drop 2 at code) ∙ ap (λ (l : List ℕ). drop 2 l) e
+
+  inside : length code ≡ 18994 → at < 18993
+  inside h = omega (arith, length-drop at code, ap (λ (l : List ℕ). length l) e)
+
+-- a variable's word: 0 where it is not bound
+pub data SlotAs {T : Type 0} (TermAs : T → ℕ → Type 0) : Option (Value T) → ℕ → Type 0 where
+  unbound : SlotAs TermAs none 0
+  bound : {v : Value T} {x : ℕ} → ValueAs TermAs v x → SlotAs TermAs (some v) x
+
+-- a frame's variables in the store
+abbrev pub FrameAs : {T : Type 0} → (T → ℕ → Type 0) → Store T → List ℕ → ℕ → Type 0
+FrameAs TermAs ρ store frame = (x : ℕ) → x < 16 → SlotAs TermAs (getD ρ x none) (getD store (19 * frame + x) 0)
+
+-- an operator's node is no leaf, and no `not`
+op-node : (o : Op) (code store : List ℕ) (frame w : ℕ) → leafOf code store frame (opWord o) w ≡ 0
+unfolding opWord leafOf
+op-node plus code store frame w = refl
+op-node minus code store frame w = refl
+op-node equal code store frame w = refl
+op-node less code store frame w = refl
+op-node and code store frame w = refl
+op-node or code store frame w = refl
+
+op-not-not : (o : Op) → eqb (opWord o) 4 ≡ false
+unfolding opWord
+op-not-not plus = refl
+op-not-not minus = refl
+op-not-not equal = refl
+op-not-not less = refl
+op-not-not and = refl
+op-not-not or = refl
+
+truth-word : (b : Bool) → 8589934592 + bit b ≡ truthWord b
+unfolding bit truthWord
+truth-word true = refl
+truth-word false = refl
+
+module _ {M : Model} (E : Engine M) where
+  pub then-as : {r : Result (M .World) (Value (M .Term))} {d : Did}
+      {f : Value (M .Term) → M .World → Result (M .World) (Value (M .Term))} {g : ℕ → List ℕ → ℕ → Did}
+      → EvalAs E r d
+      → ((w : M .World) (v : Value (M .Term)) (x : ℕ) (pool : List ℕ) (count : ℕ)
+      → E .WorldAs w pool count → As E v x → EvalAs E (f v w) (g x pool count))
+      → EvalAs E (andThen r f) (andThenIn d g)
+  unfolding andThen andThenIn
+  then-as {d} (gives {w} {v} h p) k = simp (le-ltb (d .out) 4294967296 (value-low E p)) (k w v (d .out) (d .pool) (d .count) h p)
+  then-as {d} (errs {n} h e few) k = let small : d .out < 4294967296 = rw e few in simp (lt-ltb (d .out) 4294967296 small) (errs h e few)
+
+  module _ (code store : List ℕ) (frame : ℕ) (whole : length code ≡ 18994) where
+    -- a leaf, and an operator
+    leaf-is : (at : ℕ) {k w x : ℕ} {rest : List ℕ} → drop at code ≡ k ∷ w ∷ rest → leafOf code store frame k w ≡ x → leafIn code store frame at ≡ x
+    unfolding leafIn
+    leaf-is at e f = simp (lt-ltb at 18993 (inside code at e whole), first-word code at e, second-word code at e) f
+
+    at-leaf : (d at : ℕ) {x : ℕ} (pool : List ℕ) (count : ℕ) → leafIn code store frame at ≡ x → (x ≡ 0 → ⊥)
+        → operandIn code store frame d at pool count ≡ did x pool count
+    unfolding operandIn operandBy
+    at-leaf d at {x} pool count e nz = simp (e, ne-eqb x 0 nz)
+
+    at-operator : (d at : ℕ) {k w : ℕ} (pool : List ℕ) (count : ℕ) {rest : List ℕ}
+        → drop at code ≡ k ∷ w ∷ rest
+        → leafOf code store frame k w ≡ 0
+        → operandIn code store frame (suc d) at pool count
+        ≡ andThenIn (operandIn code store frame d (at + 2) pool count) (secondBy code store frame (operandIn code store frame d) k (at + 2 + w))
+    unfolding operandIn operandBy operatorIn operatorBy
+    at-operator d at pool count e f =
+        simp (leaf-is at e f, lt-ltb at 18993 (inside code at e whole), first-word code at e, second-word code at e)
+
+    variable-is : (x : ℕ) → frame < 8 → x < 16
+        → variableIn store frame x ≡ if? (eqb (getD store (19 * frame + x) 0) 0) 1 (getD store (19 * frame + x) 0)
+    unfolding variableIn
+    variable-is x hf hx = simp (lt-ltb (19 * frame + x) 152 (omega arith))
+
+    slot-as : (d at : ℕ) (w : M .World) (pool : List ℕ) (count : ℕ) {o : Option (Value (M .Term))} {y : ℕ}
+        → leafIn code store frame at ≡ if? (eqb y 0) 1 y
+        → E .WorldAs w pool count
+        → SlotAs (E .TermAs) o y
+        → EvalAs E (there o 1 w) (operandIn code store frame d at pool count)
+    unfolding there stop give
+    slot-as d at w pool count e h unbound =
+        rw (at-leaf d at {x = 1} pool count e (λ z. absurd (omega arith))) (errs {n = 1} h refl (omega arith))
+    slot-as d at w pool count e h (bound {x} p) =
+        let nz : x ≡ 0 → ⊥ = omega (arith, value-low E p) in
+        let f : leafIn code store frame at ≡ x = e ∙ simp (ne-eqb x 0 nz) in
+        rw (at-leaf d at pool count f nz) (gives h p)
+
+    -- where the second operand stands
+    second-stands : (at : ℕ) {k : ℕ} (a b : Expr ℕ) (rest : List ℕ)
+        → drop at code ≡ k ∷ length (exprWords a) ∷ (exprWords a ++ exprWords b ++ rest)
+        → drop (at + 2 + length (exprWords a)) code ≡ exprWords b ++ rest
+    second-stands at a b rest e =
+        sym (drop-drop (length (exprWords a)) (at + 2) code)
+        ∙ ap (λ (l : List ℕ). drop (length (exprWords a)) l) (behind code at e ∙ append-assoc (exprWords a) (exprWords b) rest)
+        ∙ drop-append-seam (exprWords a) (exprWords b ++ rest)
+
+    module _ (ρ : Store (M .Term)) {variables : ℕ} (frame-as : FrameAs (E .TermAs) ρ store frame) (low : frame < 8) (few : variables ≤ 16) where
+      pub operand-as : {d : ℕ} {e : Expr ℕ} → ExprFits variables d e
+          → (at : ℕ) (rest : List ℕ)
+          → drop at code ≡ exprWords e ++ rest
+          → (w : M .World) (pool : List ℕ) (count : ℕ)
+          → E .WorldAs w pool count
+          → EvalAs E (eval M ρ e w) (operandIn code store frame d at pool count)
+      unfolding eval exprWords give leafOf secondBy _>>=_
+      operand-as (aNumber {d} {n} h) at rest e w pool count world =
+          let f : leafIn code store frame at ≡ 4294967296 + n = leaf-is at e refl in
+          rw (at-leaf (suc d) at pool count f (λ z. absurd (omega arith))) (gives world (constAs (Values.aNumber h)))
+      operand-as (aTruth {d} {b}) at rest e w pool count world =
+          let f : leafIn code store frame at ≡ truthWord b = leaf-is at e (truth-word b) in
+          let low : 4294967296 ≤ truthWord b = Values.const-low (Values.aTruth {b = b}) in
+          rw (at-leaf (suc d) at pool count f (λ z. absurd (omega arith))) (gives world (constAs Values.aTruth))
+      operand-as (aVariable {d} {x} h) at rest e w pool count world =
+          slot-as (suc d) at w pool count (leaf-is at e (variable-is x low (omega arith))) world (frame-as x (omega arith))
+      operand-as (aNot {d} {e = a} h) at rest e w pool count world =
+          rw (at-operator d at pool count e refl)
+          (then-as (operand-as h (at + 2) rest (behind code at e) w pool count world) (λ w v x pool count h p. negate-as E h p))
+      operand-as (anOperator {d} {o} {a} {b} h k) at rest e w pool count world =
+          rw (at-operator d at pool count e (op-node o code store frame (length (exprWords a))))
+          (then-as
+          (operand-as h (at + 2) (exprWords b ++ rest) (behind code at e ∙ append-assoc (exprWords a) (exprWords b) rest) w pool count world)
+          (λ w v x pool count world p. simp (op-not-not o)
+          (then-as
+          (operand-as k (at + 2 + length (exprWords a)) rest (second-stands at a b rest e) w pool count world)
+          (λ w u y pool count world q. operate-as E o world p q))))
+
+      -- an expression, at most eight deep, evaluated
+      pub evaluate-as : {e : Expr ℕ} → ExprFits variables 8 e → (at : ℕ) → Placed code at e
+          → (w : M .World) (pool : List ℕ) (count : ℕ)
+          → E .WorldAs w pool count
+          → EvalAs E (eval M ρ e w) (evaluateIn code store frame at pool count)
+      unfolding evaluateIn
+      evaluate-as h at p w pool count world = operand-as h at (p .rest) (p .words) w pool count world

@@ -1,0 +1,3 @@
+pub mod Evaluated
+pub mod Steps
+pub mod Laws

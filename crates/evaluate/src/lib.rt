@@ -1,0 +1,124 @@
+// Evaluation of an expression that stands in the program's words (crates/code), over the variables of a frame in the lent store: a value's
+// word, or an error number. By recursion with the remaining depth as the falling number; an operand that is a number, a truth or a variable
+// is no call of its own. The store has 19 words for each of 8 frames: 16 variables, 0 where nothing is bound, and the three of a return
+// place. Words are read as they stand; specs/Laws.antt shows that on a program's words this is document 01's evaluation.
+ghost use mathlib.Core.Path.{_≡_};
+ghost use Prim.Native.Nat.{_<_};
+ghost use Rattle.terms.specs.Made.{did};
+ghost use Rattle.evaluate.specs.Evaluated.{variableIn, leafIn, operandIn, operatorIn, evaluateIn};
+use code::CODE_WORDS;
+use values::FALSE;
+use values::VALUES;
+
+// 8 frames of 19 words
+pub const STORE_WORDS: usize = 152;
+
+const FRAME_WORDS: usize = 19;
+
+// "An expression is at most eight deep"
+const DEPTH: u32 = 8;
+
+const NOT_BOUND: u64 = 1;
+
+fn variable(store: &[u64; STORE_WORDS], frame: u32, x: u32) -> u64
+    ensures { λ r. ⌜ r ≡ variableIn (now (store .entry)) frame x ⌝ }
+{
+    let at = FRAME_WORDS * (frame as usize) + x as usize;
+    if at < STORE_WORDS {
+        let v = store[at];
+        if v == 0 {
+            return NOT_BOUND;
+        }
+        return v;
+    }
+    NOT_BOUND
+}
+
+// A number, a truth or a variable; 0 where an operator stands
+fn leaf(code: &[u32; CODE_WORDS], at: usize, store: &[u64; STORE_WORDS], frame: u32) -> u64
+    ensures { λ r. ⌜ r ≡ leafIn (now (code .entry)) (now (store .entry)) frame at ⌝ }
+{
+    if at < CODE_WORDS - 1 {
+        let kind = code[at];
+        let w = code[at + 1];
+        match kind {
+            1 => values::number(w),
+            2 => values::truth_of(w),
+            3 => variable(store, frame, w),
+            _ => 0,
+        }
+    } else {
+        NOT_BOUND
+    }
+}
+
+fn operand(
+    code: &[u32; CODE_WORDS],
+    at: usize,
+    depth: u32,
+    store: &[u64; STORE_WORDS],
+    frame: u32,
+    pool: &mut [u8],
+    count: &mut u32,
+) -> u64
+    ensures { λ r. ⌜ did r (now (pool .exit)) (now (count .exit)) ≡ operandIn (now (code .entry)) (now (store .entry)) frame depth at (now (pool .entry)) (now (count .entry)) ⌝ }
+{
+    let v = leaf(code, at, store, frame);
+    if v == 0 {
+        return operator(code, at, depth, store, frame, pool, count);
+    }
+    v
+}
+
+fn wide(w: u32) -> usize
+    ensures { λ r. ⌜ (r ≡ w) × (r < 4294967296) ⌝ }
+{
+    w as usize
+}
+
+// "Both operands are always evaluated, left first, and only then are their sorts tested."
+fn operator(
+    code: &[u32; CODE_WORDS],
+    at: usize,
+    depth: u32,
+    store: &[u64; STORE_WORDS],
+    frame: u32,
+    pool: &mut [u8],
+    count: &mut u32,
+) -> u64
+    ensures { λ r. ⌜ did r (now (pool .exit)) (now (count .exit)) ≡ operatorIn (now (code .entry)) (now (store .entry)) frame depth at (now (pool .entry)) (now (count .entry)) ⌝ }
+{
+    if depth == 0 {
+        return NOT_BOUND;
+    }
+    if CODE_WORDS - 1 <= at {
+        return NOT_BOUND;
+    }
+    let kind = code[at];
+    let a = operand(code, at + 2, depth - 1, store, frame, pool, count);
+    if a < VALUES {
+        return a;
+    }
+    if kind == 4 {
+        return terms::negate(pool, count, a);
+    }
+    let second = at + 2 + wide(code[at + 1]);
+    let b = operand(code, second, depth - 1, store, frame, pool, count);
+    if b < VALUES {
+        return b;
+    }
+    terms::operate(pool, count, kind, a, b)
+}
+
+pub fn evaluate(
+    code: &[u32; CODE_WORDS],
+    at: u32,
+    store: &[u64; STORE_WORDS],
+    frame: u32,
+    pool: &mut [u8],
+    count: &mut u32,
+) -> u64
+    ensures { λ r. ⌜ did r (now (pool .exit)) (now (count .exit)) ≡ evaluateIn (now (code .entry)) (now (store .entry)) frame at (now (pool .entry)) (now (count .entry)) ⌝ }
+{
+    operand(code, at as usize, DEPTH, store, frame, pool, count)
+}

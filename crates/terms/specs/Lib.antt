@@ -1,0 +1,5 @@
+pub mod Made
+pub mod Stores
+pub mod Laws
+pub mod Plain
+pub mod Pooled
