@@ -4,25 +4,24 @@ use native.Mathlib.Nat.{mul-suc, zero-add}
 use native.Mathlib.Omega.{arith}
 use mathlib.Core.Path.{_≡_, refl, sym, _∙_, ap, ap₂, subst}
 use mathlib.Core.Bool.{Bool, true, false, _&&_}
-use mathlib.Core.List.{List, [], _∷_, _++_, append-assoc, append-nil}
+use mathlib.Core.List.{List, [], _∷_, _++_, append-assoc}
 use lib.ListN.{length, getD, replicate, length-append, length-replicate, List·getD-append}
 use lib.Seq.{getD-append-add}
-use lib.Dec.{eqb}
 use borrow.Author.Tests.{le-ltb}
 use Rattle.gil.specs.Names.{gather}
-use Rattle.gil.specs.Values.{Constant, truthIn, sameTruth, Value, term}
-use Rattle.gil.specs.Machine.{Cell, End, returned, failed, vanished, error}
-use Rattle.gil.specs.Rows.{Condition, Reason, steps, branches, Outcome, ended, cut, Row}
+use Rattle.gil.specs.Values.{Constant, truthIn, sameTruth, term}
+use Rattle.gil.specs.Machine.{Cell, returned, failed, vanished, error}
+use Rattle.gil.specs.Rows.{Condition, steps, branches, Outcome, ended, cut, Row}
 use Rattle.gil.specs.Pool.{Ref, placeIn, Pool, valueOf, poolValues, meets, placeAmong, placed}
-use Rattle.gil.specs.Layout.{wordBytes, room, bit, reasonCode, valueWords, variableWords, cellWords, conditionWords, endWords, outcomeWords, headWords, rowWords, rowBytes, refTag, poolBytes, tableHead, tableBytes, inputWords}
+use Rattle.gil.specs.Layout.{wordBytes, room, bit, reasonCode, variableWords, cellWords, conditionWords, endWords, outcomeWords, headWords, rowWords, rowBytes, refTag, poolBytes, tableHead, tableBytes, inputWords}
 use Rattle.code.specs.WellFormed as WellFormed
 use Rattle.code.specs.WellFormed.{Each}
 use Rattle.code.specs.Accepted.Lists.{each-append}
 use Rattle.words.specs.Words.{wordAt}
 use Rattle.words.specs.Reads.{Words, none, more, wordAt-words}
 use Rattle.values.specs.Packed.{if?}
-use Rattle.locate.specs.Located.{atMost, valueWord, valuesTo, conditionHolds, conditionsHold, rowHolds, firstRow, locateIn}
-use Rattle.locate.specs.Sound.{RefFits, ValueFits, ConditionFits, VariableFits, unbound, bound, StoreFits, CellFits, CellsFit, EndFits, fitsReturned, fitsFailed, fitsVanished, fitsError, OutcomeFits, fitsEnded, fitsCut, RowFits, Sound}
+use Rattle.locate.specs.Located.{atMost, valuesTo, conditionHolds, conditionsHold, rowHolds, firstRow, locateIn}
+use Rattle.locate.specs.Sound.{ConditionFits, VariableFits, unbound, bound, CellFits, fitsReturned, fitsFailed, fitsVanished, fitsError, OutcomeFits, fitsEnded, fitsCut, RowFits, Sound}
 use Rattle.locate.specs.Inputs.{Bytes}
 use Rattle.locate.specs.Terms.{gather-append, length-words, bit-small, value-words, words-append, length-value, ValuesAs, values-as, condition-as}
 
@@ -232,7 +231,8 @@ module _ {w : Pool} {cs : List Constant} {vs : List ℕ} (values : ValuesAs w cs
 each-first : {A : Type 0} {P : A → Type 0} {a : A} {l : List A} → Each P (a ∷ l) → P a
 each-first (WellFormed.more p ps) = p
 
-length-rows : {w : Pool} {rs : List (Row Ref)} → length w ≤ 2048 → Each (RowFits w) rs → length (gather (rowBytes refTag placeIn) rs) ≡ 1024 * length rs
+length-rows :
+    {w : Pool} {rs : List (Row Ref)} → length w ≤ 2048 → Each (RowFits w) rs → length (gather (rowBytes refTag placeIn) rs) ≡ 1024 * length rs
 unfolding gather rowBytes
 length-rows few WellFormed.none = refl
 length-rows few (WellFormed.more {a = r} f fs) =
@@ -312,7 +312,8 @@ module _ {w : Pool} {rows : List (Row Ref)} (s : Sound w rows) (extra : List ℕ
       ap (λ (n : ℕ). firstRow t vs (length rs) n) (sym next)
       ∙ rows-from (done ++ (r ∷ [])) v (e ∙ sym (append-assoc done (r ∷ []) rs)) fs
       ∙ ap (λ (n : ℕ). n + placeAmong cs rs) next in
-      ap (λ (b : Bool). if? b (length done) (firstRow t vs (length rs) (length done + 1))) (row-holds v t (length done) (row-at done rs r e) f)
+      ap (λ (b : Bool). if? b (length done) (firstRow t vs (length rs) (length done + 1)))
+      (row-holds v t (length done) (row-at done rs r e) f)
       ∙ pick (meets cs (r .conditions)) (length done) (firstRow t vs (length rs) (length done + 1)) (placeAmong cs rs) rest
 
   -- For a sound table: document 01's row.

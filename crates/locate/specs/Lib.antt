@@ -4,3 +4,4 @@ pub mod Inputs
 pub mod Terms
 pub mod Laws
 pub mod Exploring
+pub mod Place

@@ -131,4 +131,8 @@ pub locate-by :
     → vs ≡ valuesTo pool inputs (replicate 2048 0) (atMost 2048 terms) → rows ≡ wordAt table 0 → r ≡ firstRow table vs (atMost 64 rows) 0
     → r ≡ locateIn table pool inputs
 unfolding locateIn
-locate-by table pool inputs e f g h = h ∙ ap₂ (λ (l : List ℕ) (k : ℕ). firstRow table l (atMost 64 k) 0) (f ∙ ap (λ (k : ℕ). valuesTo pool inputs (replicate 2048 0) (atMost 2048 k)) e) g
+locate-by table pool inputs e f g h =
+    h
+    ∙ ap₂ (λ (l : List ℕ) (k : ℕ). firstRow table l (atMost 64 k) 0)
+    (f ∙ ap (λ (k : ℕ). valuesTo pool inputs (replicate 2048 0) (atMost 2048 k)) e)
+    g

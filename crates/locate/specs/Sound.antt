@@ -9,7 +9,7 @@ use mathlib.Core.List.{List, [], _∷_, _++_}
 use mathlib.Core.Option.{Option, none, some}
 use lib.ListN.{length, getD}
 use Rattle.gil.specs.Tree.{Op}
-use Rattle.gil.specs.Values.{Constant, number, boolean, location, Sort, numbers, booleans, sortOf, Fit, right, fit, Value, const, term, Node, input, neg, bin, givesNumber}
+use Rattle.gil.specs.Values.{number, boolean, location, Sort, booleans, sortOf, right, fit, Value, const, term, Node, input, neg, bin, givesNumber}
 use Rattle.gil.specs.Machine.{Cell, Store, End, returned, failed, vanished, error}
 use Rattle.gil.specs.Rows.{Condition, Reason, Outcome, ended, cut, Row}
 use Rattle.gil.specs.Pool.{Ref, refSort, placeIn, refTo, Pool}
@@ -94,5 +94,6 @@ pub record RowFits (w : Pool) (r : Row Ref) : Type 0 where
 pub record Sound (w : Pool) (table : List (Row Ref)) : Type 0 where
   pub fewTerms : length w ≤ 2048
   pub terms : TermsFit [] w
+  pub someRow : 1 ≤ length table
   pub fewRows : length table ≤ 64
   pub rows : Each (RowFits w) table

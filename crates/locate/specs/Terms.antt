@@ -1,6 +1,5 @@
 -- The pool read from its bytes: a sound term's value, worked out on its words, is the word of document 01's value of it. Assumes nothing.
-use Prim.Native.Nat.{ℕ, zero, suc, _+_, _*_, _-_, _%_, _≤_, _<_}
-use native.Mathlib.Numerals.{add-one}
+use Prim.Native.Nat.{ℕ, _+_, _*_, _-_, _%_, _≤_, _<_}
 use native.Mathlib.Omega.{arith}
 use mathlib.Core.Logic.{_≢_}
 use mathlib.Core.Path.{_≡_, refl, sym, _∙_, ap, subst}
@@ -12,13 +11,13 @@ use lib.Dec.{ltb, eqb}
 use borrow.Author.Tests.{lt-ltb, ltb-true, ltb-false}
 use Rattle.gil.specs.Tree.{Op, plus, minus, equal, less, and, or}
 use Rattle.gil.specs.Names.{gather}
-use Rattle.gil.specs.Values.{Constant, number, boolean, location, Sort, numbers, booleans, locations, sortOf, truthIn, sameTruth, Fit, right, fit, work, workNot, Value, const, term, Node, input, neg, bin, opGivesNumber, givesNumber}
+use Rattle.gil.specs.Values.{Constant, number, boolean, location, Sort, numbers, booleans, sortOf, truthIn, sameTruth, work, workNot, Value, const, term, Node, input, neg, bin, opGivesNumber, givesNumber}
 use Rattle.gil.specs.Pool.{Ref, numberTerm, booleanTerm, refSort, placeIn, refTo, Pool, valueOf, nodeValue, valuesFrom, poolValues}
 use Rattle.gil.specs.Layout.{wordBytes, room, bit, constantWords, valueWords, refTag, opCode, nodeWords, nodeBytes, poolBytes, inputWords}
 use Rattle.code.specs.Code.{opWord}
 use Rattle.words.specs.Words.{wordAt}
 use Rattle.words.specs.Reads.{Words, none, more, wordAt-words}
-use Rattle.values.specs.Packed.{if?, truthWord, workWord}
+use Rattle.values.specs.Packed.{truthWord, workWord}
 use Rattle.values.specs.Laws.{ConstAs, aNumber, aTruth, aLocation, low-number, low-location, low-truth, work-law, not-law}
 use Rattle.locate.specs.Located.{valueWord, operandWord, opValue, termOf, termValue, valuesTo, values-more, values-start}
 use Rattle.locate.specs.Sound.{valueSort, RefFits, ValueFits, fitsNumber, fitsTruth, fitsLocation, fitsTerm, NodeFits, fitsInput, fitsNot, fitsOp, TermsFit, noTerm, nextTerm}
@@ -200,7 +199,8 @@ term-input : (inputs vs : List ℕ) (k : ℕ) → termIn inputs vs (nodeWords (i
 unfolding nodeWords constantWords termIn termOf
 term-input inputs vs k = refl
 
-term-not : (inputs vs : List ℕ) (a : Value Ref) → termIn inputs vs (nodeWords (neg a)) ≡ truthWord (eqb (operandWord vs (tagOf a) (wordOf a)) 0)
+term-not :
+    (inputs vs : List ℕ) (a : Value Ref) → termIn inputs vs (nodeWords (neg a)) ≡ truthWord (eqb (operandWord vs (tagOf a) (wordOf a)) 0)
 unfolding nodeWords termIn termOf opValue
 term-not inputs vs a = ap (λ (l : List ℕ). termIn inputs vs (2 ∷ l)) (two-words a (0 ∷ 0 ∷ []))
 
@@ -287,11 +287,13 @@ unfolding termValue termIn
 term-value before terms n rest inputs vs h f =
     let k : ℕ = length before in
     let p : List ℕ = poolBytes (before ++ n ∷ terms) ++ rest in
-    let e0 : wordAt p (20 * k) ≡ getD (nodeWords n) 0 0 = node-word before terms n rest (20 * k) 0 h f (omega arith) (omega arith) in
-    let e1 : wordAt p (20 * k + 4) ≡ getD (nodeWords n) 1 0 = node-word before terms n rest (20 * k + 4) 1 h f (omega arith) (omega arith) in
-    let e2 : wordAt p (20 * k + 8) ≡ getD (nodeWords n) 2 0 = node-word before terms n rest (20 * k + 8) 2 h f (omega arith) (omega arith) in
-    let e3 : wordAt p (20 * k + 12) ≡ getD (nodeWords n) 3 0 = node-word before terms n rest (20 * k + 12) 3 h f (omega arith) (omega arith) in
-    let e4 : wordAt p (20 * k + 16) ≡ getD (nodeWords n) 4 0 = node-word before terms n rest (20 * k + 16) 4 h f (omega arith) (omega arith) in
+    let word : (at j : ℕ) → j < 5 → at ≡ 20 * k + 4 * j → wordAt p at ≡ getD (nodeWords n) j 0 =
+    λ at j few e. node-word before terms n rest at j h f few e in
+    let e0 : wordAt p (20 * k) ≡ getD (nodeWords n) 0 0 = word (20 * k) 0 (omega arith) (omega arith) in
+    let e1 : wordAt p (20 * k + 4) ≡ getD (nodeWords n) 1 0 = word (20 * k + 4) 1 (omega arith) (omega arith) in
+    let e2 : wordAt p (20 * k + 8) ≡ getD (nodeWords n) 2 0 = word (20 * k + 8) 2 (omega arith) (omega arith) in
+    let e3 : wordAt p (20 * k + 12) ≡ getD (nodeWords n) 3 0 = word (20 * k + 12) 3 (omega arith) (omega arith) in
+    let e4 : wordAt p (20 * k + 16) ≡ getD (nodeWords n) 4 0 = word (20 * k + 16) 4 (omega arith) (omega arith) in
     cc
 
 module _ (inputs : List ℕ) (long : length inputs ≡ 64) (bytes : Bytes inputs) where

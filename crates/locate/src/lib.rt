@@ -104,7 +104,7 @@ fn row_holds(table: &[u8], values: &[u64; 2048], row: u32) -> bool
 
 // The first row whose conditions hold, or the number of rows where none does
 fn first_row(table: &[u8], values: &[u64; 2048], rows: u32) -> u32
-    ensures { λ r. ⌜ r ≡ firstRow (now (table .entry)) (now (values .entry)) (atMost 64 rows) 0 ⌝ }
+    ensures { λ r. ⌜ (r ≡ firstRow (now (table .entry)) (now (values .entry)) (atMost 64 rows) 0) × (r ≤ 64) ⌝ }
 {
     let n = at_most(64, rows);
     let mut r = 0;
@@ -117,8 +117,9 @@ fn first_row(table: &[u8], values: &[u64; 2048], rows: u32) -> u32
     r
 }
 
+// The number of the row that the inputs fall in, or the number of rows where they fall in none
 pub fn locate(table: &[u8], pool: &[u8], inputs: &[u8]) -> u32
-    ensures { λ r. ⌜ r ≡ locateIn (now (table .entry)) (now (pool .entry)) (now (inputs .entry)) ⌝ }
+    ensures { λ r. ⌜ (r ≡ locateIn (now (table .entry)) (now (pool .entry)) (now (inputs .entry))) × (r ≤ 64) ⌝ }
 {
     let mut values = [0u64; 2048];
     evaluate(pool, inputs, &mut values, words::word_at(table, 4));

@@ -1,6 +1,6 @@
 use Prim.Native.Nat.{ℕ, _≤_, _-_}
 use lib.ListN.{set}
-use mathlib.Core.Path.{_≡_, refl, sym, _∙_, ap}
+use mathlib.Core.Path.{_≡_, _∙_, ap}
 use native.Mathlib.Omega.{arith}
 use borrow.Author.Needs.{needs}
 use Rattle.locate.specs.Located.{valuesTo, values-more, values-start}

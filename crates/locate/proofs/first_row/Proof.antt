@@ -1,5 +1,5 @@
 use Prim.Native.Nat.{_≤_, _-_}
-use mathlib.Core.Path.{_≡_, refl, sym, _∙_, ap}
+use mathlib.Core.Path.{_≡_, sym, _∙_}
 use native.Mathlib.Omega.{arith}
 use borrow.Author.Needs.{needs}
 use Rattle.locate.specs.Located.{firstRow, rows-start, rows-more, rows-found, rows-end}
@@ -30,7 +30,7 @@ row-holds-requires c κs = search needs
 
 -- src/lib.rt:113:13
 returns : tie.Need-returns Inv-loop μ-loop
-returns c = sym (rw (← c .before .before .before .before .at-most .ensures .0) (c .before .before .before .loop .inv .1 ∙ rows-found _ _ _ _ (omega arith) (sym (c .before .row-holds .ensures) ∙ c .if1 .taken)))
+returns c = (sym (rw (← c .before .before .before .before .at-most .ensures .0) (c .before .before .before .loop .inv .1 ∙ rows-found _ _ _ _ (omega arith) (sym (c .before .row-holds .ensures) ∙ c .if1 .taken))), omega (arith, c .before .before .before .before .at-most .ensures .1))
 
 -- src/lib.rt:115:9
 add-r : tie.Need-add-r Inv-loop μ-loop
@@ -46,7 +46,7 @@ loop-again c = (omega arith, c .before .before .before .loop .inv .1 ∙ rows-mo
 
 -- src/lib.rt:106:1
 returns-2 : tie.Need-returns-2 Inv-loop μ-loop
-returns-2 c = sym (rw (← c .before .before .at-most .ensures .0) (c .before .loop .inv .1 ∙ rows-end _ _ _ _ (omega arith)))
+returns-2 c = (sym (rw (← c .before .before .at-most .ensures .0) (c .before .loop .inv .1 ∙ rows-end _ _ _ _ (omega arith))), omega (arith, c .before .before .at-most .ensures .1))
 
 pub first-row-spec : {M : Type 1} → statement M
 first-row-spec =

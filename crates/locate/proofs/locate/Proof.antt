@@ -26,7 +26,7 @@ first-row-requires c κs = search needs
 
 -- src/lib.rt:120:1
 returns : tie.Need-returns
-returns c = locate-by _ _ _ (c .before .before .before .before .word-at .ensures) (c .before .before .before .evaluate .ensures) (c .before .word-at2 .ensures) (c .first-row .ensures)
+returns c = (locate-by _ _ _ (c .before .before .before .before .word-at .ensures) (c .before .before .before .evaluate .ensures) (c .before .word-at2 .ensures) (c .first-row .ensures .0), c .first-row .ensures .1)
 
 pub locate-spec : {M : Type 1} → statement M
 locate-spec =
