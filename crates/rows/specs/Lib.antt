@@ -1,0 +1,3 @@
+-- Assumes nothing.
+pub mod Stored
+pub mod Turns
