@@ -1,3 +1,6 @@
 -- Assumes nothing.
 pub mod Stored
 pub mod Turns
+pub mod Rooms
+pub mod Held
+pub mod Row

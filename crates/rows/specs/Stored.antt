@@ -4,8 +4,8 @@ use native.Mathlib.Omega.{arith}
 use native.Mathlib.Numerals.{add-one}
 use mathlib.Core.Path.{_≡_, refl, sym, ap, _∙_}
 use mathlib.Core.List.{List, [], _∷_, _++_}
-use lib.ListN.{length, getD}
-use lib.Dec.{ltb}
+use lib.ListN.{length, getD, take, drop}
+use lib.Dec.{ltb, leb}
 use Rattle.words.specs.Words.{putWord}
 use Rattle.values.specs.Packed.{if?}
 use Rattle.cells.specs.declared.Cell.{Cell}
@@ -66,3 +66,12 @@ withRow part h conditions store frame cells =
     let conditioned = withConditions headed (h .conditions) conditions in
     let bound = withVariables conditioned (h .variables) store frame in
     withCells bound (h .cells) cells
+
+-- row `k` of a table, which begins at 64 + 1024 × k
+unfoldable pub withRowAt : List ℕ → ℕ → Head → List ℕ → List ℕ → ℕ → List Cell → List ℕ
+withRowAt table k h conditions store frame cells =
+    if? (ltb k 64)
+    (if? (leb (64 + 1024 * k) (length table))
+    (take (64 + 1024 * k) table ++ withRow (drop (64 + 1024 * k) table) h conditions store frame cells)
+    table)
+    table

@@ -4,8 +4,10 @@ use native.Mathlib.Omega.{arith}
 use native.Mathlib.Nat.{add-zero}
 use native.Mathlib.Numerals.{add-one}
 use mathlib.Core.Path.{_≡_, refl, sym, ap, _∙_}
-use mathlib.Core.List.{List, [], _∷_, _++_}
-use lib.ListN.{length}
+use mathlib.Core.List.{List, [], _∷_, _++_, append-nil}
+use lib.ListN.{length, take, drop, length-drop}
+use lib.Seq.{take-all, drop-length}
+use borrow.Rule.Slice.PartMut.{midOf, postOf, putMid, post-is}
 use Rattle.words.specs.Words.{putWord}
 use Rattle.cells.specs.declared.Cell.{Cell}
 use Rattle.rows.specs.Stored.{putWords, wordsFrom, valueOf, cellOf}
@@ -55,3 +57,13 @@ pub cell-put :
 unfolding cellOf
 cell-put b b' b'' at at' c k e f =
     f ∙ rw (e, k, ← put-append (c .location .0 ∷ c .property ∷ []) (valueOf (c .value)) b at)
+
+-- a part `t[at..]` that was lent and comes back changed
+pub part-back :
+    (f : List ℕ → List ℕ) (t ys : List ℕ) (at : ℕ) → at ≤ length t
+    → ys ≡ f (midOf at (length t - at) t)
+    → putMid at (length t - at) t ys ≡ take at t ++ f (drop at t)
+part-back f t ys at h e =
+    let all : midOf at (length t - at) t ≡ drop at t = take-all (length t - at) (drop at t) (simp length-drop (omega arith)) in
+    let none : postOf at (length t - at) t ≡ [] = post-is at (length t) t h ∙ drop-length t in
+    rw (e, all, none, append-nil)

@@ -8,7 +8,7 @@ use words::put_word;
 ghost use mathlib.Core.Path.{_≡_};
 ghost use mathlib.Core.List.{[], _∷_};
 ghost use Prim.Native.Nat.{min, _<_};
-ghost use Rattle.rows.specs.Stored.{putWords, headOf, withConditions, withVariables, withCells, withRow};
+ghost use Rattle.rows.specs.Stored.{putWords, headOf, withConditions, withVariables, withCells, withRow, withRowAt};
 
 // A row's first ten words. Outcome, tag and word are its outcome and value, error number or reason; the last three count what follows.
 pub struct Head {
@@ -29,6 +29,28 @@ pub fn write_heading(table: &mut [u8], rows: u32, terms: u32)
     ensures { λ _. ⌜ now (table .exit) ≡ putWords (now (table .entry)) 0 (rows ∷ terms ∷ []) ⌝ }
 {
     put_pair(table, 0, rows, terms);
+}
+
+// A finished row, written into its own part of the table: that of its number, from 0.
+pub fn finish_row(
+    table: &mut [u8],
+    number: u32,
+    head: Head,
+    conditions: &[u32; 16],
+    store: &[u64; 152],
+    frame: u32,
+    cells: [Cell; 32],
+)
+    ensures { λ _. ⌜ now (table .exit) ≡ withRowAt (now (table .entry)) number head (now (conditions .entry)) (now (store .entry)) frame cells ⌝ }
+{
+    if number >= 64 {
+        return;
+    }
+    let at = 64 + 1024 * number as usize;
+    if at > table.len() {
+        return;
+    }
+    write_row(&mut table[at..], head, conditions, store, frame, cells);
 }
 
 // A row: `part` begins where the row does, conditions are 2 × term + truth, the variables are those of one frame of the store.
