@@ -4,3 +4,4 @@ pub mod Turns
 pub mod Rooms
 pub mod Held
 pub mod Row
+pub mod Table
