@@ -8,6 +8,7 @@ use lib.ListN.{length, take, drop, replicate, length-append, length-replicate, r
 use lib.Seq.{take-at, drop-at}
 use borrow.Author.Tests.{lt-ltb, le-leb}
 use Rattle.gil.specs.Names.{gather}
+use Rattle.gil.specs.Values.{Value}
 use Rattle.gil.specs.Rows.{Row}
 use Rattle.gil.specs.Pool.{Ref, placeIn, Pool}
 use Rattle.gil.specs.Layout.{tableLength, wordBytes, room, rowBytes, refTag, tableHead, tableBytes}
@@ -15,7 +16,7 @@ use Rattle.cells.specs.declared.Cell.{Cell}
 use Rattle.rows.specs.declared.Head.{Head}
 use Rattle.rows.specs.Stored.{putWords, withRow, withRowAt}
 use Rattle.rows.specs.Rooms.{zeros, gather-append, length-words, length-room, put-room}
-use Rattle.rows.specs.Held.{Within, RowAs}
+use Rattle.rows.specs.Held.{Keeps, RowAs}
 use Rattle.rows.specs.Row.{row-long, row-left}
 
 abbrev rowsBytes : List (Row Ref) → List ℕ
@@ -77,10 +78,11 @@ front-long : (z : ℕ) (b : List ℕ) (n : ℕ) → length b ≡ n → length (z
 front-long z b n e = length-append (zeros z) b ∙ rw (length-replicate {A = ℕ} z 0, e)
 
 pub table-more :
-    {rows : List (Row Ref)} {t : List ℕ} {r : Row Ref} {h : Head} {conditions store : List ℕ} {frame : ℕ} {cells : List Cell} (k : ℕ)
-    → TableAs rows t → k ≡ length rows → k < 64 → RowAs refTag placeIn r h conditions store frame cells
+    (As : Value Ref → ℕ → Type 0) → Keeps refTag placeIn As
+    → {rows : List (Row Ref)} {t : List ℕ} {r : Row Ref} {h : Head} {conditions store : List ℕ} {frame : ℕ} {cells : List Cell} (k : ℕ)
+    → TableAs rows t → k ≡ length rows → k < 64 → RowAs As placeIn r h conditions store frame cells
     → TableAs (rows ++ (r ∷ [])) (withRowAt t k h conditions store frame cells)
-table-more {rows} {t} {r} {h} {conditions} {store} {frame} {cells} k w e few p =
+table-more As kept {rows} {t} {r} {h} {conditions} {store} {frame} {cells} k w e few p =
     let b = rowBytes refTag placeIn r in
     let front = zeros 64 ++ rowsBytes rows in
     let lr : length b ≡ 1024 = row-long refTag placeIn r (p .within) in
@@ -91,7 +93,7 @@ table-more {rows} {t} {r} {h} {conditions} {store} {frame} {cells} k w e few p =
     ap (λ (l : List ℕ). take 1024 (drop (64 + 1024 * k) l)) (w .bytes) ∙ room-free tableLength (64 + 1024 * k) 1024 front b la lr fits in
     let written : withRowAt t k h conditions store frame cells ≡ take (64 + 1024 * k) t ++ (b ++ drop 1024 (drop (64 + 1024 * k) t)) =
     at-row t k h conditions store frame cells few (omega arith)
-    ∙ ap (λ (l : List ℕ). take (64 + 1024 * k) t ++ l) (row-left refTag placeIn p (drop (64 + 1024 * k) t) free) in
+    ∙ ap (λ (l : List ℕ). take (64 + 1024 * k) t ++ l) (row-left refTag placeIn As kept p (drop (64 + 1024 * k) t) free) in
     let filled : take (64 + 1024 * k) t ++ (b ++ drop 1024 (drop (64 + 1024 * k) t)) ≡ room tableLength (front ++ b) =
     ap (λ (l : List ℕ). take (64 + 1024 * k) l ++ (b ++ drop 1024 (drop (64 + 1024 * k) l))) (w .bytes)
     ∙ room-more tableLength (64 + 1024 * k) 1024 front b la lr fits in
