@@ -1,4 +1,4 @@
--- Assumes nothing.
+-- What the row writer leaves, that it is document 01's row, and where rows stand in the table. Assumes nothing.
 pub mod Stored
 pub mod Turns
 pub mod Rooms

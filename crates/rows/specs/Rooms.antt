@@ -1,10 +1,10 @@
 -- Words written over zeros fill their room: what is left is the words, and zeros to the room's end, as Layout has it. Assumes nothing.
-use Prim.Native.Nat.{ℕ, zero, suc, _+_, _*_, _-_, _<_, _≤_}
+use Prim.Native.Nat.{ℕ, zero, suc, _+_, _*_, _-_, _≤_}
 use native.Mathlib.Omega.{arith}
 use native.Mathlib.Nat.{sub-zero, mul-suc, add-comm}
-use mathlib.Core.Path.{_≡_, refl, sym, ap, _∙_}
-use mathlib.Core.List.{List, [], _∷_, _++_, append-assoc, append-nil}
-use lib.ListN.{length, take, drop, replicate, length-append, length-replicate, replicate-append-replicate}
+use mathlib.Core.Path.{_≡_, refl, _∙_}
+use mathlib.Core.List.{List, [], _∷_, _++_, append-assoc}
+use lib.ListN.{length, replicate, length-append, length-replicate, replicate-append-replicate}
 use lib.Seq.{take-append-seam, drop-append-add}
 use Rattle.gil.specs.Names.{gather}
 use Rattle.gil.specs.Layout.{wordBytes, room}
@@ -95,8 +95,6 @@ module _ (a b c d e : ℕ) (u v w x rest : List ℕ) (fu : length u ≤ a) (fv :
       (4 * a + 4 * b + 4 * c) x
       ≡ gather wordBytes (room a u ++ room b v ++ room c w ++ room d x ++ zeros e) ++ rest
   put-four =
-      let U = bytes a u in
-      let W = bytes c w in
       let two = bytes a u ++ bytes b v in
       let three = bytes a u ++ bytes b v ++ bytes c w in
       let l1 : length (bytes a u) ≡ 4 * a = long a u fu in

@@ -1,17 +1,17 @@
 -- What the row writer leaves is document 01's row: for words that hold a row (`RowAs`), over zeros, exactly Layout's bytes of it. Assumes nothing.
-use Prim.Native.Nat.{ℕ, zero, suc, min, _+_, _*_, _/_, _%_, _<_, _≤_}
+use Prim.Native.Nat.{ℕ, min, _+_, _*_, _/_, _%_, _<_, _≤_}
 use native.Mathlib.Omega.{arith}
 use native.Mathlib.Nat.{zero-add}
 use mathlib.Core.Path.{_≡_, refl, sym, ap, _∙_}
 use mathlib.Core.Bool.{Bool, true, false}
-use mathlib.Core.List.{List, [], _∷_, _++_, append-assoc}
+use mathlib.Core.List.{List, [], _∷_, _++_}
 use mathlib.Core.Option.{Option, none, some}
-use lib.ListN.{length, getD, take, drop, replicate, length-append, length-take, take-append-drop}
+use lib.ListN.{length, getD, take, drop, replicate, length-append, take-append-drop}
 use borrow.Author.Tests.{lt-ltb}
 use Rattle.gil.specs.Names.{gather}
 use Rattle.gil.specs.Values.{Constant, number, boolean, location, Value, const, term}
 use Rattle.gil.specs.Machine as machine
-use Rattle.gil.specs.Machine.{Store, returned, failed, vanished, error}
+use Rattle.gil.specs.Machine.{returned, failed, vanished, error}
 use Rattle.gil.specs.Rows.{Condition, Row, Outcome, ended, cut}
 use Rattle.gil.specs.Layout.{wordBytes, room, bit, constantWords, valueWords, variableWords, cellWords, conditionWords, endWords, outcomeWords, headWords, rowWords, rowBytes, noNumber, answerBytes}
 use Rattle.values.specs.Packed.{truthWord}
@@ -19,9 +19,9 @@ use Rattle.values.specs.Laws.{ConstAs, aNumber, aTruth, aLocation, low-number, 
 use Rattle.cells.specs.declared.Cell.{Cell}
 use Rattle.rows.specs.declared.Head.{Head}
 use Rattle.rows.specs.Stored.{wordsFrom, headOf, conditionOf, valueOf, cellOf, noCell, conditionIn, variableIn, cellIn, withConditions, withVariables, withCells, withRow}
-use Rattle.rows.specs.Rooms.{zeros, gather-append, length-gather-each, length-words, length-room, zero-words, put-four, zeros-apart}
+use Rattle.rows.specs.Rooms.{zeros, gather-append, length-gather-each, length-words, length-room, put-four, zeros-apart}
 use Rattle.rows.specs.Alike.{Alike, alike-same, alike-append, alike-room, listed-from, frame-words}
-use Rattle.rows.specs.Held.{ValueAs, aConst, aTerm, Keeps, Within, ConditionAs, VariableAs, unbound, bound, FrameAs, CellAs, OutcomeAs, aReturn, aFail, aVanish, anError, aCut, RowAs}
+use Rattle.rows.specs.Held.{ValueAs, aConst, aTerm, Keeps, Within, ConditionAs, VariableAs, unbound, bound, CellAs, OutcomeAs, aReturn, aFail, aVanish, anError, aCut, RowAs}
 
 -- a value by its tag and its place has the words of it
 const-words : {c : Constant} {x : ℕ} → ConstAs c x → valueOf x ≡ constantWords c

@@ -1,9 +1,8 @@
 -- Words written one after another: what a turn of a writer's loop leaves, and what its end. Assumes nothing.
-use Prim.Native.Nat.{ℕ, zero, suc, _+_, _*_, _-_, _/_, _%_, _<_, _≤_}
+use Prim.Native.Nat.{ℕ, suc, _+_, _*_, _-_, _/_, _%_, _<_, _≤_}
 use native.Mathlib.Omega.{arith}
-use native.Mathlib.Nat.{add-zero}
 use native.Mathlib.Numerals.{add-one}
-use mathlib.Core.Path.{_≡_, refl, sym, ap, _∙_}
+use mathlib.Core.Path.{_≡_, sym, _∙_}
 use mathlib.Core.List.{List, [], _∷_, _++_, append-nil}
 use lib.ListN.{length, take, drop, length-drop}
 use lib.Seq.{take-all, drop-length}
@@ -67,3 +66,15 @@ part-back f t ys at h e =
     let all : midOf at (length t - at) t ≡ drop at t = take-all (length t - at) (drop at t) (simp length-drop (omega arith)) in
     let none : postOf at (length t - at) t ≡ [] = post-is at (length t) t h ∙ drop-length t in
     rw (e, all, none, append-nil)
+
+-- five pairs of words, one after another from the front
+pub five-pairs :
+    (p0 p1 p2 p3 p4 p5 : List ℕ) (a b c d e f g h i j : ℕ)
+    → p1 ≡ putWords p0 0 (a ∷ b ∷ [])
+    → p2 ≡ putWords p1 8 (c ∷ d ∷ [])
+    → p3 ≡ putWords p2 16 (e ∷ f ∷ [])
+    → p4 ≡ putWords p3 24 (g ∷ h ∷ [])
+    → p5 ≡ putWords p4 32 (i ∷ j ∷ [])
+    → p5 ≡ putWords p0 0 (a ∷ b ∷ c ∷ d ∷ e ∷ f ∷ g ∷ h ∷ i ∷ j ∷ [])
+unfolding putWords
+five-pairs p0 p1 p2 p3 p4 p5 a b c d e f g h i j e1 e2 e3 e4 e5 = cc

@@ -1,9 +1,8 @@
 use mathlib.Core.List.{List}
 use Prim.Native.Nat.{ℕ, _+_, _*_}
-use Rattle.rows.specs.Stored.{withRow}
+use Rattle.rows.specs.Stored.{withRow, withRowAt}
 use Rattle.rows.specs.Turns.{part-back}
 use borrow.Author.Tests.{lt-ltb, le-ltb, lt-leb, le-leb}
-use Rattle.rows.specs.Stored.{withRowAt}
 use borrow.Author.Needs.{needs}
 use Rattle.rows.proofs.finish_row.Statement.{statement}
 use Rattle.rows.proofs.finish_row.Tie as tie

@@ -1,11 +1,9 @@
-use Rattle.rows.specs.Stored.{noCell}
+use Rattle.rows.specs.Stored.{noCell, putWords, wordsFrom, valueOf, cellOf, cellIn, withCells}
 use native.Mathlib.Omega.{arith}
-use Prim.Native.Nat.{ℕ, _+_, _*_, _-_, _≤_, _<_}
-use mathlib.Core.Path.{_≡_, refl, sym, _∙_, ap}
+use Prim.Native.Nat.{_+_, _*_, _-_, _≤_, _<_}
+use mathlib.Core.Path.{_≡_, refl}
 use lib.ListN.{length, getD}
 use borrow.Author.Needs.{needs}
-use mathlib.Core.List.{_∷_, []}
-use Rattle.rows.specs.Stored.{putWords, wordsFrom, valueOf, cellOf, cellIn, withCells}
 use Rattle.rows.specs.Turns.{begun, turn, done, value-put, cell-put}
 use Rattle.rows.proofs.write_cells.Statement.{statement}
 use Rattle.rows.proofs.write_cells.Tie as tie

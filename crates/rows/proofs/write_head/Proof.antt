@@ -1,4 +1,5 @@
-use Rattle.rows.specs.Stored.{putWords, headOf}
+use Rattle.rows.specs.Stored.{headOf}
+use Rattle.rows.specs.Turns.{five-pairs}
 use borrow.Author.Needs.{needs}
 use Rattle.rows.proofs.write_head.Statement.{statement}
 use Rattle.rows.proofs.write_head.Tie as tie
@@ -32,8 +33,8 @@ same-length c = search needs
 
 -- src/lib.rt:60:1
 returns : tie.Need-returns
-unfolding headOf putWords
-returns c = cc
+unfolding headOf
+returns c = five-pairs _ _ _ _ _ _ _ _ _ _ _ _ _ _ _ _ (c .before .before .before .before .before .before .before .before .before .before .before .before .before .before .before .before .before .before .put-pair .ensures) (c .before .before .before .before .before .before .before .before .before .before .before .before .before .before .put-pair2 .ensures) (c .before .before .before .before .before .before .before .before .before .before .put-pair3 .ensures) (c .before .before .before .before .before .before .put-pair4 .ensures) (c .before .before .put-pair5 .ensures)
 
 pub write-head-spec : {M : Type 1} → statement M
 write-head-spec =

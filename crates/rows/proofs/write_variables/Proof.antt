@@ -1,9 +1,8 @@
 use native.Mathlib.Omega.{arith}
-use Prim.Native.Nat.{ℕ, _+_, _*_, _-_, _≤_, _<_}
-use mathlib.Core.Path.{_≡_, refl, sym, _∙_, ap}
-use lib.ListN.{length, getD}
+use Prim.Native.Nat.{_+_, _*_, _-_, _≤_, _<_}
+use mathlib.Core.Path.{_≡_, refl}
+use lib.ListN.{length}
 use borrow.Author.Needs.{needs}
-use mathlib.Core.List.{_∷_, []}
 use borrow.Author.Tests.{lt-ltb, le-ltb}
 use Rattle.rows.specs.Stored.{putWords, wordsFrom, valueOf, variableIn, withVariables}
 use Rattle.rows.specs.Turns.{begun, turn, done, value-put}
