@@ -142,7 +142,7 @@ pub fn fetch(code: &[u32; CODE_WORDS], c: Control) -> Command
     vanish()
 }
 
-fn assign(c: Control, x: u32, v: u64, store: &mut [u64; STORE_WORDS]) -> Next
+pub fn assign(c: Control, x: u32, v: u64, store: &mut [u64; STORE_WORDS]) -> Next
     ensures { λ r. ⌜ acted r (now (store .exit)) ≡ assignIn c x v (now (store .entry)) ⌝ }
 {
     put(store, FRAME_WORDS * (c.frame as usize) + x as usize, v);
