@@ -1,0 +1,3 @@
+pub mod State
+pub mod Frames
+pub mod Memory
