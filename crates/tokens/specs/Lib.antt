@@ -1,3 +1,4 @@
 pub mod Bools
 pub mod Classes
 pub mod Scan
+pub mod Words

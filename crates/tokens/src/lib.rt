@@ -2,3 +2,4 @@
 // definitions of crates/gil/specs/Text.antt; what a token is to the code stands in specs/Seen.antt.
 pub mod classes;
 pub mod scan;
+pub mod words;
