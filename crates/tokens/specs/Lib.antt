@@ -2,3 +2,4 @@ pub mod Bools
 pub mod Classes
 pub mod Scan
 pub mod Words
+pub mod Seen
