@@ -123,8 +123,10 @@ module _ (s : List ℕ) (i : ℕ) (h : i < length s) where
     where
       g : suc i < length s
       g = omega arith
+
       m : getD s (suc i) 0 ≡ 61
       m = rw add-one at n
+
       lexed : tokenFrom s i (drop i s) ≡ record { token = becomes; next = suc (suc i) }
       lexed = unfold coloned in colon-at d ∙ rw (drop-cons s (suc i) 0 g) (rw (m, coloned))
 
@@ -170,6 +172,7 @@ module _ (s : List ℕ) (i : ℕ) (h : i < length s) where
       where
         named : (nameAt s v ≡ part s (suc i) n) × (v / 32 + v % 32 ≤ length s)
         named = place-is s (suc i) n v (omega arith) (omega arith) (omega arith)
+
         lexed : tokenFrom s i (drop i s) ≡ record { token = property (part s (suc i) n); next = suc (suc (i + n)) }
         lexed = unfold quoted in quote-then ∙ rw (eq-eqb (getD s (suc i + n) 0) 34 (rw add-one at q), le-leb 1 n a, le-leb n 16 (omega arith), quoted)
 
@@ -214,12 +217,16 @@ module _ (s : List ℕ) (i : ℕ) (h : i < length s) where
     where
       one : span inRun (drop i s) ≡ suc (span inRun (drop (suc i) s))
       one = unfold span in ap (span inRun) (drop-cons s i 0 h) ∙ rw (r, span)
+
       is : end - i ≡ suc (span inRun (drop (suc i) s))
       is = omega (arith, one)
+
       fits : end ≤ length s
       fits = omega (arith, past-fits inRun s i (omega arith))
+
       long : length (take (end - i) (drop i s)) ≤ 16 → end - i ≤ 16
       long q = omega (arith, length-take (end - i) (drop i s), length-drop i s, fits)
+
       lexed : tokenFrom s i (drop i s) ≡ record { token = word (take (end - i) (drop i s)); next = i + (end - i) }
       lexed = unfold tokenFrom in token-at ∙ rw (r, tokenFrom) (rw is)
 
@@ -238,5 +245,6 @@ found-past s at i k v n e f =
   where
     far : skipWhite s at ≡ at + span white (drop at s)
     far = unfold skipWhite in refl
+
     lexed : tokenFrom s i (drop i s) ≡ lexeme s at
     lexed = unfold lexeme in ap (λ (j : ℕ). tokenFrom s j (drop j s)) e
