@@ -137,8 +137,10 @@ module _ (s : List ℕ) (cap : ℕ) (t : List ℕ) (place n i : ℕ) (c : cap �
       where
         more : length (all ++ (w ∷ [])) ≡ n + 1
         more = length-append all (w ∷ []) ∙ omega (arith, room h l)
+
         count : getD (set (set t n place) 32 (n + 1)) 32 0 ≡ min (cap + 1) (length (all ++ (w ∷ [])))
         count = getD-set-same (set t n place) 32 (n + 1) 0 (omega (arith, length-set t n place, k .long)) ∙ omega (arith, more)
+
         names : map (nameAt s) (take (min cap (length (all ++ (w ∷ [])))) (set (set t n place) 32 (n + 1))) ≡ take cap (all ++ (w ∷ []))
         names =
             let a : min cap (length (all ++ (w ∷ []))) ≡ n + 1 = omega (arith, more) in
@@ -153,10 +155,13 @@ module _ (s : List ℕ) (cap : ℕ) (t : List ℕ) (place n i : ℕ) (c : cap �
       where
         full : cap ≤ length all
         full = omega (arith, size)
+
         longer : suc cap ≤ length (withName all w)
         longer = elim (native.Mathlib.Decide.decLe (suc cap) (length all)) [ yes g ↦ omega (arith, withName-longer all w) | no g ↦ rw (withName-new all w (has-place w all ∙ le-ltb (placeOf w all) (length all) (omega (arith, size, least)))) (omega (arith, length-append all (w ∷ []), full)) ]
+
         count : getD (set t 32 (cap + 1)) 32 0 ≡ min (cap + 1) (length (withName all w))
         count = getD-set-same t 32 (cap + 1) 0 (omega (arith, k .long)) ∙ omega (arith, longer)
+
         names : map (nameAt s) (take (min cap (length (withName all w))) (set t 32 (cap + 1))) ≡ take cap (withName all w)
         names =
             let a : min cap (length (withName all w)) ≡ min cap (length all) = omega (arith, longer, full) in

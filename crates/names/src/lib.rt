@@ -69,7 +69,7 @@ pub fn search(text: &[u8], word: &[u8], names: &[u32; 33], n: usize) -> usize
 // the number of the name at a place in a table, which takes the name in where it is new
 pub fn intern(text: &[u8], place: u32, names: &mut [u32; 33], cap: usize) -> usize
     requires { ⌜ cap ≤ 32 ⌝ }
-    ensures { λ r. ⌜ Interned (now (text .entry)) cap (now (names .entry)) (now (names .exit)) (nameAt (now (text .entry)) place) r ⌝ }
+    ensures { λ r. ⌜ Interned (now (text .entry)) cap (now (names .entry)) (now (names .exit)) (nameAt (now (text .entry)) place) r × (r ≤ cap) ⌝ }
 {
     let n = least(wide(names[32]), cap);
     let start = start_of(text.len(), place);

@@ -56,7 +56,7 @@ search-requires c κs = search needs
 
 -- src/lib.rt:79:9
 returns : tie.Need-returns
-returns c = interned-known (c .before .before .before .before .before .before .before .before .before .before .args .text .now) (c .before .before .before .before .before .before .before .before .before .before .args .cap) (c .before .before .before .before .before .before .before .before .before .before .args .names .now) (c .before .before .before .before .before .before .before .before .before .before .args .place) (c .before .before .before .before .before .before .least .result) (c .before .search .result) (c .before .before .before .before .before .before .before .before .before .before .pre) (c .before .before .before .before .before .before .least .ensures ∙ ap (λ (m : ℕ). min m (c .before .before .before .before .before .before .before .before .before .before .args .cap)) (c .before .before .before .before .before .before .before .wide .ensures)) (nameAt (c .before .before .before .before .before .before .before .before .before .before .args .text .now) (c .before .before .before .before .before .before .before .before .before .before .args .place)) refl (searched (c .before .before .before .before .before .before .before .before .before .before .args .text .now) (c .before .before .before .before .before .before .before .before .before .before .args .place) (c .before .before .before .before .before .start-of .result) (c .before .before .before .before .end-of .result) (c .before .before .before .before .before .before .before .before .before .before .args .names .now) (c .before .before .before .before .before .before .least .result) (c .before .search .result) (c .before .before .before .before .before .start-of .ensures) (c .before .before .before .before .end-of .ensures) (c .before .search .ensures .0)) (c .if1 .taken)
+returns c = (interned-known (c .before .before .before .before .before .before .before .before .before .before .args .text .now) (c .before .before .before .before .before .before .before .before .before .before .args .cap) (c .before .before .before .before .before .before .before .before .before .before .args .names .now) (c .before .before .before .before .before .before .before .before .before .before .args .place) (c .before .before .before .before .before .before .least .result) (c .before .search .result) (c .before .before .before .before .before .before .before .before .before .before .pre) (c .before .before .before .before .before .before .least .ensures ∙ ap (λ (m : ℕ). min m (c .before .before .before .before .before .before .before .before .before .before .args .cap)) (c .before .before .before .before .before .before .before .wide .ensures)) (nameAt (c .before .before .before .before .before .before .before .before .before .before .args .text .now) (c .before .before .before .before .before .before .before .before .before .before .args .place)) refl (searched (c .before .before .before .before .before .before .before .before .before .before .args .text .now) (c .before .before .before .before .before .before .before .before .before .before .args .place) (c .before .before .before .before .before .start-of .result) (c .before .before .before .before .end-of .result) (c .before .before .before .before .before .before .before .before .before .before .args .names .now) (c .before .before .before .before .before .before .least .result) (c .before .search .result) (c .before .before .before .before .before .start-of .ensures) (c .before .before .before .before .end-of .ensures) (c .before .search .ensures .0)) (c .if1 .taken), omega (arith, c .before .before .before .before .before .before .least .ensures))
 
 -- src/lib.rt:82:9
 mul-names : tie.Need-mul-names
@@ -80,7 +80,7 @@ element-write-names-2 c = search needs
 
 -- src/lib.rt:84:9
 returns-2 : tie.Need-returns-2
-returns-2 c = interned-new (c .before .before .before .before .before .before .before .before .before .before .before .args .text .now) (c .before .before .before .before .before .before .before .before .before .before .before .args .cap) (c .before .before .before .before .before .before .before .before .before .before .before .args .names .now) (c .before .before .before .before .before .before .before .before .before .before .before .args .place) (c .before .before .before .before .before .before .before .least .result) (c .before .before .search .result) (c .before .before .before .before .before .before .before .before .before .before .before .pre) (c .before .before .before .before .before .before .before .least .ensures ∙ ap (λ (m : ℕ). min m (c .before .before .before .before .before .before .before .before .before .before .before .args .cap)) (c .before .before .before .before .before .before .before .before .wide .ensures)) (nameAt (c .before .before .before .before .before .before .before .before .before .before .before .args .text .now) (c .before .before .before .before .before .before .before .before .before .before .before .args .place)) refl (searched (c .before .before .before .before .before .before .before .before .before .before .before .args .text .now) (c .before .before .before .before .before .before .before .before .before .before .before .args .place) (c .before .before .before .before .before .before .start-of .result) (c .before .before .before .before .before .end-of .result) (c .before .before .before .before .before .before .before .before .before .before .before .args .names .now) (c .before .before .before .before .before .before .before .least .result) (c .before .before .search .result) (c .before .before .before .before .before .before .start-of .ensures) (c .before .before .before .before .before .end-of .ensures) (c .before .before .search .ensures .0)) (c .before .if1 .left) (c .if2 .taken)
+returns-2 c = (interned-new (c .before .before .before .before .before .before .before .before .before .before .before .args .text .now) (c .before .before .before .before .before .before .before .before .before .before .before .args .cap) (c .before .before .before .before .before .before .before .before .before .before .before .args .names .now) (c .before .before .before .before .before .before .before .before .before .before .before .args .place) (c .before .before .before .before .before .before .before .least .result) (c .before .before .search .result) (c .before .before .before .before .before .before .before .before .before .before .before .pre) (c .before .before .before .before .before .before .before .least .ensures ∙ ap (λ (m : ℕ). min m (c .before .before .before .before .before .before .before .before .before .before .before .args .cap)) (c .before .before .before .before .before .before .before .before .wide .ensures)) (nameAt (c .before .before .before .before .before .before .before .before .before .before .before .args .text .now) (c .before .before .before .before .before .before .before .before .before .before .before .args .place)) refl (searched (c .before .before .before .before .before .before .before .before .before .before .before .args .text .now) (c .before .before .before .before .before .before .before .before .before .before .before .args .place) (c .before .before .before .before .before .before .start-of .result) (c .before .before .before .before .before .end-of .result) (c .before .before .before .before .before .before .before .before .before .before .before .args .names .now) (c .before .before .before .before .before .before .before .least .result) (c .before .before .search .result) (c .before .before .before .before .before .before .start-of .ensures) (c .before .before .before .before .before .end-of .ensures) (c .before .before .search .ensures .0)) (c .before .if1 .left) (c .if2 .taken), omega (arith, c .before .before .before .before .before .before .before .least .ensures))
 
 -- src/lib.rt:86:18
 add-names-2 : tie.Need-add-names-2
@@ -96,7 +96,7 @@ element-write-names-3 c = search needs
 
 -- src/lib.rt:70:1
 returns-3 : tie.Need-returns-3
-returns-3 c = interned-over (c .before .before .before .before .before .before .before .before .before .before .before .args .text .now) (c .before .before .before .before .before .before .before .before .before .before .before .args .cap) (c .before .before .before .before .before .before .before .before .before .before .before .args .names .now) (c .before .before .before .before .before .before .before .before .before .before .before .args .place) (c .before .before .before .before .before .before .before .least .result) (c .before .before .search .result) (c .before .before .before .before .before .before .before .before .before .before .before .pre) (c .before .before .before .before .before .before .before .least .ensures ∙ ap (λ (m : ℕ). min m (c .before .before .before .before .before .before .before .before .before .before .before .args .cap)) (c .before .before .before .before .before .before .before .before .wide .ensures)) (nameAt (c .before .before .before .before .before .before .before .before .before .before .before .args .text .now) (c .before .before .before .before .before .before .before .before .before .before .before .args .place)) refl (searched (c .before .before .before .before .before .before .before .before .before .before .before .args .text .now) (c .before .before .before .before .before .before .before .before .before .before .before .args .place) (c .before .before .before .before .before .before .start-of .result) (c .before .before .before .before .before .end-of .result) (c .before .before .before .before .before .before .before .before .before .before .before .args .names .now) (c .before .before .before .before .before .before .before .least .result) (c .before .before .search .result) (c .before .before .before .before .before .before .start-of .ensures) (c .before .before .before .before .before .end-of .ensures) (c .before .before .search .ensures .0)) (c .before .if1 .left) (c .if2 .left)
+returns-3 c = (interned-over (c .before .before .before .before .before .before .before .before .before .before .before .args .text .now) (c .before .before .before .before .before .before .before .before .before .before .before .args .cap) (c .before .before .before .before .before .before .before .before .before .before .before .args .names .now) (c .before .before .before .before .before .before .before .before .before .before .before .args .place) (c .before .before .before .before .before .before .before .least .result) (c .before .before .search .result) (c .before .before .before .before .before .before .before .before .before .before .before .pre) (c .before .before .before .before .before .before .before .least .ensures ∙ ap (λ (m : ℕ). min m (c .before .before .before .before .before .before .before .before .before .before .before .args .cap)) (c .before .before .before .before .before .before .before .before .wide .ensures)) (nameAt (c .before .before .before .before .before .before .before .before .before .before .before .args .text .now) (c .before .before .before .before .before .before .before .before .before .before .before .args .place)) refl (searched (c .before .before .before .before .before .before .before .before .before .before .before .args .text .now) (c .before .before .before .before .before .before .before .before .before .before .before .args .place) (c .before .before .before .before .before .before .start-of .result) (c .before .before .before .before .before .end-of .result) (c .before .before .before .before .before .before .before .before .before .before .before .args .names .now) (c .before .before .before .before .before .before .before .least .result) (c .before .before .search .result) (c .before .before .before .before .before .before .start-of .ensures) (c .before .before .before .before .before .end-of .ensures) (c .before .before .search .ensures .0)) (c .before .if1 .left) (c .if2 .left), omega (arith, c .before .before .before .before .before .before .before .least .ensures))
 
 pub intern-spec : {M : Type 1} → statement M
 intern-spec =
