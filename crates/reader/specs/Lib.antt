@@ -1,2 +1,5 @@
+pub mod Effects
+pub mod Exprs
 pub mod Goes
 pub mod Seeing
+pub mod Stores

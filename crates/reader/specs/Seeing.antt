@@ -14,7 +14,7 @@ use Rattle.gil.specs.Reading.{Read, faulty, read, Reader, after, _>>=_, done, n
 use Rattle.code.specs.Code as Code
 use Rattle.tokens.specs.Words.{Stands, aName, aNumber, aUSite, anISite, aFault, aKey, keyKind}
 use Rattle.tokens.specs.Seen.{nameAt, Seen, aWord, aProperty, becoming, aMark, theEnd, Found}
-use Rattle.reader.specs.Goes.{Goes, fails, goes, anything}
+use Rattle.reader.specs.Goes.{Goes, fails, goes, anything, weaken}
 
 -- the kinds of words and of the other tokens do not meet
 pub keys-high : (k : Key) → (272 ≤ keyKind k) × (keyKind k ≤ 283)
@@ -230,6 +230,7 @@ expr-by {s} {k = k} {v = v} e (aMark l) = at (eqb k 40) ∙ sym low
     at : (t : Bool) → _≡_ {A = Reader (Expr Name)} (elim t [ true ↦ bracketed e | false ↦ nothing ]) (elim t [ true ↦ bracketed e | false ↦ exprByKey e k ])
     at true = refl
     at false = sym (expr-low e k l)
+
     low : exprBy s e k v ≡ elim (eqb k 40) [ true ↦ bracketed e | false ↦ exprByKey e k ]
     low = rw (ne-eqb k 256 (λ z. omega arith), exprBy) (rw (ne-eqb k 257 (λ z. omega arith)))
 expr-by e theEnd = refl
@@ -244,15 +245,21 @@ module _ {s : List ℕ} {at k v n : ℕ} (f : Found s at (lexeme s at) k v n) wh
   unfolding token _>>=_ after
   token-step g = refl
 
-  reads : {A : Type 0} {Q : A → Type 0} (g : Token → Reader A) (a : A) → (k ≡ 263 → ⊥) → g (lexeme s at .token) ≡ done a → Q a → Goes s (suc at) Q ((token >>= g) s at) n
+  pub reads : {A : Type 0} {Q : A → Type 0} (g : Token → Reader A) (a : A) → (k ≡ 263 → ⊥) → g (lexeme s at .token) ≡ done a → Q a → Goes s (suc at) Q ((token >>= g) s at) n
   unfolding done
   reads {A} {Q} g a h e q =
       subst (λ (r : Read A). Goes s (suc at) Q r n) (sym (token-step g ∙ ap (λ (p : Reader A). p s (lexeme s at .next)) e))
       (goes (f .next) (subst (λ (m : ℕ). suc at ≤ m) (f .next) (f .more h)) (subst (λ (m : ℕ). m ≤ length s) (f .next) (inside h)) q)
 
-  faults : {A : Type 0} {Q : A → Type 0} {m : ℕ} (g : Token → Reader A) → m ≡ suc (length s) → g (lexeme s at .token) ≡ nothing → Goes s (suc at) Q ((token >>= g) s at) m
+  pub faults : {A : Type 0} {Q : A → Type 0} {m : ℕ} (g : Token → Reader A) → m ≡ suc (length s) → g (lexeme s at .token) ≡ nothing → Goes s (suc at) Q ((token >>= g) s at) m
   unfolding nothing
   faults {A} {Q} {m} g h e = subst (λ (r : Read A). Goes s (suc at) Q r m) (sym (token-step g ∙ ap (λ (p : Reader A). p s (lexeme s at .next)) e)) (fails h)
+
+  -- what follows the token is read by `p`
+  pub carries : {A : Type 0} {Q : A → Type 0} {m : ℕ} (g : Token → Reader A) (p : Reader A) → (k ≡ 263 → ⊥) → g (lexeme s at .token) ≡ p → Goes s (suc n) Q (p s n) m → Goes s (suc at) Q ((token >>= g) s at) m
+  carries {A} {Q} {m} g p h e q =
+      subst (λ (r : Read A). Goes s (suc at) Q r m) (sym (token-step g ∙ ap (λ (x : Reader A). x s (lexeme s at .next)) e ∙ ap (λ (i : ℕ). p s i) (sym (f .next))))
+      (weaken (omega (arith, f .more h)) q)
 
   pub mark-goes : (b : ℕ) → b < 256 → k ≡ b → Goes s (suc at) anything (theMark b s at) n
   unfolding theMark so
