@@ -1,3 +1,4 @@
+pub mod Commands
 pub mod Effects
 pub mod Exprs
 pub mod Goes
