@@ -66,15 +66,23 @@ pub fn search(text: &[u8], word: &[u8], names: &[u32; 33], n: usize) -> usize
     n
 }
 
+// the place of the name at a place of the text among the first n names of a table, or n
+pub fn find(text: &[u8], place: u32, names: &[u32; 33], n: usize) -> usize
+    requires { ⌜ n ≤ 32 ⌝ }
+    ensures { λ r. ⌜ (length (now (names .entry)) ≡ 33 → r ≡ placeOf (nameAt (now (text .entry)) place) (map (nameAt (now (text .entry))) (take n (now (names .entry))))) × (r ≤ n) ⌝ }
+{
+    let start = start_of(text.len(), place);
+    let end = end_of(text.len(), place);
+    search(text, &text[start..end], names, n)
+}
+
 // the number of the name at a place in a table, which takes the name in where it is new
 pub fn intern(text: &[u8], place: u32, names: &mut [u32; 33], cap: usize) -> usize
     requires { ⌜ cap ≤ 32 ⌝ }
     ensures { λ r. ⌜ Interned (now (text .entry)) cap (now (names .entry)) (now (names .exit)) (nameAt (now (text .entry)) place) r × (r ≤ cap) ⌝ }
 {
     let n = least(wide(names[32]), cap);
-    let start = start_of(text.len(), place);
-    let end = end_of(text.len(), place);
-    let i = search(text, &text[start..end], names, n);
+    let i = find(text, place, names, n);
     if i < n {
         return i;
     }
