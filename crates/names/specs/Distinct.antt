@@ -45,7 +45,7 @@ unfolding any
 any-or f g [] = refl
 any-or f g (a ∷ l) = ap (λ (b : Bool). (f a || g a) || b) (any-or f g l) ∙ or-swap (f a) (g a) (any f l) (any g l)
 
-any-same : {A : Type 0} (f g : A → Bool) → ((a : A) → f a ≡ g a) → (l : List A) → any f l ≡ any g l
+pub any-same : {A : Type 0} (f g : A → Bool) → ((a : A) → f a ≡ g a) → (l : List A) → any f l ≡ any g l
 unfolding any
 any-same f g h [] = refl
 any-same f g h (a ∷ l) = ap (λ (b : Bool). b || any f l) (h a) ∙ ap (λ (b : Bool). g a || b) (any-same f g h l)
