@@ -1,0 +1,4 @@
+pub mod Items
+pub mod Lists
+pub mod Procedures
+pub mod Verdict

@@ -1,0 +1,107 @@
+// The refusal of a text: what was counted and flagged while it was read, tested in the order of document 01.
+ghost use mathlib.Core.Path.{_≡_};
+ghost use mathlib.Core.List.{List, []};
+ghost use mathlib.Core.Bool.{_||_};
+ghost use Prim.Native.Nat.{ℕ, _≤_};
+ghost use lib.ListN.{length, replicate, getD};
+ghost use lib.Dec.{ltb};
+ghost use Rattle.gil.specs.Tree.{Name};
+ghost use Rattle.gil.specs.Reading.{procedures};
+ghost use Rattle.gil.specs.Names.{withNames, tested};
+ghost use Rattle.gil.specs.Calls.{textAnswer, checkCall};
+ghost use Rattle.names.specs.Tables.{Kept};
+ghost use Rattle.reader.specs.Goes.{Goes};
+ghost use Rattle.programs.specs.Procedures.{Tells};
+ghost use Rattle.programs.specs.Verdict.{anyLost, wrongWith};
+use crate::lists;
+use crate::lists::Tally;
+
+// 5: "over 16 procedures, 512 commands in all, 16 variables in a procedure (parameter included), or 32 distinct properties"
+fn over_limits(procs: usize, commands: usize, wide: bool, properties: u32) -> bool
+    ensures { λ r. ⌜ r ≡ ltb 16 procs || ltb 512 commands || wide || ltb 32 properties ⌝ }
+{
+    if procs > 16 {
+        return true;
+    }
+    if commands > 512 {
+        return true;
+    }
+    if wide {
+        return true;
+    }
+    properties > 32
+}
+
+// some call is of none of the first n procedures
+fn some_missing(text: &[u8], calls: &[u32; 33], procs: &[u32; 33], n: usize) -> bool
+    requires { ⌜ n ≤ 32 ⌝ }
+    ensures { λ r. ⌜ (length (now (calls .entry)) ≡ 33 → length (now (procs .entry)) ≡ 33 → r ≡ anyLost (now (text .entry)) (now (calls .entry)) (now (procs .entry)) n) ⌝ }
+{
+    let m = names::wide(calls[32]);
+    if m > 16 {
+        return true;
+    }
+    let mut i = 0;
+    while i < m {
+        let at = names::find(text, calls[i], procs, n);
+        if at == n {
+            return true;
+        }
+        i += 1;
+    }
+    false
+}
+
+// 6: "two procedures of one name, a call of a procedure that is not there, or no `main`"
+fn wrong_names(text: &[u8], count: usize, calls: &[u32; 33], procs: &[u32; 33]) -> bool
+    ensures { λ r. ⌜ ((ns fs : List Name) → Kept (now (text .entry)) 16 (now (procs .entry)) (withNames [] ns) → Kept (now (text .entry)) 16 (now (calls .entry)) (withNames [] fs) → count ≡ length ns → count ≤ 16 → r ≡ wrongWith ns fs) ⌝ }
+{
+    let n = names::wide(procs[32]);
+    if n != count {
+        return true;
+    }
+    if n > 16 {
+        return true;
+    }
+    if some_missing(text, calls, procs, n) {
+        return true;
+    }
+    let main = names::search(text, b"main", procs, n);
+    main == n
+}
+
+// the refusal of a text that was read, or 0
+fn refusal(text: &[u8], t: Tally, props: &[u32; 33], calls: &[u32; 33], procs: &[u32; 33]) -> u32
+    ensures { λ r. ⌜ ((code code′ : List ℕ) → Goes (now (text .entry)) 1 (Tells (now (text .entry)) (replicate 33 0) (now (props .entry)) (replicate 33 0) (now (calls .entry)) (replicate 33 0) (now (procs .entry)) code code′ (t .procs) (t .commands) (t .wide) (t .past) (t .unended)) (procedures (now (text .entry))) (t .next) → r ≡ textAnswer (tested (procedures (now (text .entry))))) ⌝ }
+{
+    if t.next > text.len() {
+        return 4;
+    }
+    if over_limits(t.procs, t.commands, t.wide, props[32]) {
+        return 5;
+    }
+    if wrong_names(text, t.procs, calls, procs) {
+        return 6;
+    }
+    if t.past {
+        return 7;
+    }
+    if t.unended {
+        return 8;
+    }
+    0
+}
+
+// Reads a text into the words of its program. The answer is the text's refusal, or 0.
+pub fn read_program(text: &[u8], code: &mut [u32; 18994]) -> u32
+    ensures { λ r. ⌜ r ≡ checkCall (now (text .entry)) ⌝ }
+{
+    if text.len() > 16384 {
+        return 3;
+    }
+    let mut props = [0u32; 33];
+    let mut calls = [0u32; 33];
+    let mut procs = [0u32; 33];
+    let t = lists::procedures_of(text, &mut props, &mut calls, &mut procs, code);
+    refusal(text, t, &props, &calls, &procs)
+}

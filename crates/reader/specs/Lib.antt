@@ -1,0 +1,6 @@
+pub mod Commands
+pub mod Effects
+pub mod Exprs
+pub mod Goes
+pub mod Seeing
+pub mod Stores

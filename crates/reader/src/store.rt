@@ -1,0 +1,83 @@
+// Stores into the words of a program (crates/code/specs/Code.antt). A store past the end does nothing, so that limits stop no reading.
+ghost use mathlib.Core.Path.{_≡_};
+ghost use Prim.Native.Nat.{_≤_, _+_, _-_};
+ghost use Rattle.reader.specs.Stores.{put, putNode, putCommand, putProcedure, upFrom};
+
+pub fn store(words: &mut [u32; 18994], at: usize, v: u32)
+    ensures { λ _. ⌜ now (words .exit) ≡ put (now (words .entry)) at v ⌝ }
+{
+    if at < 18994 {
+        words[at] = v;
+    }
+}
+
+// a node of an expression: its kind, and its number, variable or first operand's length
+pub fn store_node(words: &mut [u32; 18994], at: usize, kind: u32, v: u32)
+    requires { ⌜ at ≤ 18995 ⌝ }
+    ensures { λ _. ⌜ now (words .exit) ≡ putNode (now (words .entry)) at kind v ⌝ }
+{
+    store(words, at, kind);
+    store(words, at + 1, v);
+}
+
+// the place after a node, as long as there is room
+pub fn after_node(at: usize) -> usize
+    requires { ⌜ at ≤ 18995 ⌝ }
+    ensures { λ r. ⌜ (r ≡ upFrom at) × (r ≤ 18995) ⌝ }
+{
+    if at < 18994 {
+        return at + 2;
+    }
+    at
+}
+
+// how many words stand between the node at `at` and the place `end`
+pub fn between(at: usize, end: usize) -> u32
+    requires { ⌜ (at ≤ 18995) × (end ≤ 18995) ⌝ }
+    ensures { λ r. ⌜ (at + 2 ≤ end → r ≡ end - (at + 2)) ⌝ }
+{
+    if end < at + 2 {
+        return 0;
+    }
+    (end - (at + 2)) as u32
+}
+
+// the five words of command n of all, if it is one of the first 512
+pub fn store_command(
+    words: &mut [u32; 18994],
+    n: usize,
+    kind: u32,
+    variable: u32,
+    place: u32,
+    other: u32,
+    second: u32,
+)
+    ensures { λ _. ⌜ now (words .exit) ≡ putCommand (now (words .entry)) n kind variable place other second ⌝ }
+{
+    if n < 512 {
+        let at = 50 + 5 * n;
+        store(words, at, kind);
+        store(words, at + 1, variable);
+        store(words, at + 2, place);
+        store(words, at + 3, other);
+        store(words, at + 4, second);
+    }
+}
+
+// the three words of procedure n, if it is one of the first 16
+pub fn store_procedure(
+    words: &mut [u32; 18994],
+    n: usize,
+    first: u32,
+    variables: u32,
+    commands: u32,
+)
+    ensures { λ _. ⌜ now (words .exit) ≡ putProcedure (now (words .entry)) n first variables commands ⌝ }
+{
+    if n < 16 {
+        let at = 2 + 3 * n;
+        store(words, at, first);
+        store(words, at + 1, variables);
+        store(words, at + 2, commands);
+    }
+}

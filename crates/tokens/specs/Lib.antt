@@ -1,0 +1,5 @@
+pub mod Bools
+pub mod Classes
+pub mod Scan
+pub mod Words
+pub mod Seen
