@@ -1,3 +1,4 @@
 pub mod State
 pub mod Frames
 pub mod Memory
+pub mod Moves
