@@ -2,3 +2,4 @@ pub mod State
 pub mod Frames
 pub mod Memory
 pub mod Moves
+pub mod Words
