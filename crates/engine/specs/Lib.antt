@@ -3,3 +3,4 @@ pub mod Frames
 pub mod Memory
 pub mod Moves
 pub mod Words
+pub mod Laws

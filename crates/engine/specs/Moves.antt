@@ -90,7 +90,7 @@ module _ {M : Model} (E : Engine M) (p : Program) where
   went h a = record { world = h; next = goesOn a }
 
   -- an operand evaluated, and what is done with its value
-  value-as : {store : List ℕ} {ds : List (Machine.Cell ℕ)} {r : Result (M .World) (Value (M .Term))} {d : Did}
+  pub value-as : {store : List ℕ} {ds : List (Machine.Cell ℕ)} {r : Result (M .World) (Value (M .Term))} {d : Did}
       (f : Value (M .Term) → M .World → Result (M .World) (Machine.Next (M .Term))) (g : ℕ → Acted)
       → EvalAs E r d
       → ((w : M .World) (v : Value (M .Term)) (x : ℕ) (pool : List ℕ) (count : ℕ) → E .WorldAs w pool count → As E v x
@@ -103,7 +103,7 @@ module _ {M : Model} (E : Engine M) (p : Program) where
       let same : d .out % 4294967296 ≡ n = mod-eq-of-lt small ∙ e in
       simp (lt-ltb (d .out) 4294967296 small, same) (erred n h)
 
-  operand-as : {store : List ℕ} {ds : List (Machine.Cell ℕ)} {r : Result (M .World) (Value (M .Term))} {d : Did}
+  pub operand-as : {store : List ℕ} {ds : List (Machine.Cell ℕ)} {r : Result (M .World) (Value (M .Term))} {d : Did}
       (f : Value (M .Term) → M .World → Result (M .World) (Machine.Next (M .Term))) (g : ℕ → List ℕ → ℕ → Changed)
       → EvalAs E r d
       → ((w : M .World) (v : Value (M .Term)) (x : ℕ) (pool : List ℕ) (count : ℕ) → E .WorldAs w pool count → As E v x
@@ -178,7 +178,7 @@ module _ {M : Model} (E : Engine M) (p : Program) where
       same-cells x hx a = assigned-as x hx a (h .cells)
 
       -- `v := e`
-      assign-as : {w : M .World} {v : Value (M .Term)} {y : ℕ} {pool : List ℕ} {count : ℕ} (x : ℕ)
+      pub assign-as : {w : M .World} {v : Value (M .Term)} {y : ℕ} {pool : List ℕ} {count : ℕ} (x : ℕ)
           → x < procedureAt p (s .control .procedure) .variables
           → E .WorldAs w pool count
           → As E v y
@@ -199,7 +199,7 @@ module _ {M : Model} (E : Engine M) (p : Program) where
           simp (ne-eqb (y / 4294967296) 2 (λ f. absurd (omega arith)), eq-eqb (y / 4294967296) 5 e)
           (record { world = world; next = hasForked a (goto-as n) (onward-as small) })
 
-      jump-as : {w : M .World} {v : Value (M .Term)} {y : ℕ} {pool : List ℕ} {count : ℕ} (n : ℕ)
+      pub jump-as : {w : M .World} {v : Value (M .Term)} {y : ℕ} {pool : List ℕ} {count : ℕ} (n : ℕ)
           → E .WorldAs w pool count
           → As E v y
           → SteppedAs store ds (jump M n s v w) (after (jumpIn c n y) store pool count)
@@ -236,7 +236,7 @@ module _ {M : Model} (E : Engine M) (p : Program) where
             cells = h .cells;
           })
 
-      enter-by : {w : M .World} {v : Value (M .Term)} {y : ℕ} {pool : List ℕ} {count : ℕ} (x f : ℕ) (b : Bool)
+      pub enter-by : {w : M .World} {v : Value (M .Term)} {y : ℕ} {pool : List ℕ} {count : ℕ} (x f : ℕ) (b : Bool)
           → ltb (frames (s .control)) 8 ≡ b
           → x < procedureAt p (s .control .procedure) .variables
           → f < length (p .procedures)
@@ -285,7 +285,7 @@ module _ {M : Model} (E : Engine M) (p : Program) where
             cells = b .cells;
           }
 
-      locate-by : {w : M .World} {pool : List ℕ} {count : ℕ} (x : ℕ) (b : Bool)
+      pub locate-by : {w : M .World} {pool : List ℕ} {count : ℕ} (x : ℕ) (b : Bool)
           → ltb (s .control .locations) 16 ≡ b
           → x < procedureAt p (s .control .procedure) .variables
           → E .WorldAs w pool count
@@ -304,7 +304,7 @@ module _ {M : Model} (E : Engine M) (p : Program) where
           let many′ : 16 ≤ c .locations .0 = omega (arith, h .locations) in
           simp (le-leb 16 (c .locations .0) many′) (erred 6 world)
 
-      receive-by : {w : M .World} {pool : List ℕ} {count : ℕ} (x : ℕ) (b : Bool)
+      pub receive-by : {w : M .World} {pool : List ℕ} {count : ℕ} (x : ℕ) (b : Bool)
           → ltb (s .control .inputs) 16 ≡ b
           → x < procedureAt p (s .control .procedure) .variables
           → E .WorldAs w pool count
@@ -335,7 +335,7 @@ module _ {M : Model} (E : Engine M) (p : Program) where
       look-slot x hx world (bound {x = y} a) =
           simp (ne-eqb y 0 (λ e. absurd (omega (arith, value-low E a)))) (assign-as x hx world a)
 
-      look-as : {w : M .World} {v : Value (M .Term)} {y : ℕ} {pool : List ℕ} {count : ℕ} (m : Command)
+      pub look-as : {w : M .World} {v : Value (M .Term)} {y : ℕ} {pool : List ℕ} {count : ℕ} (m : Command)
           → m .target < procedureAt p (s .control .procedure) .variables
           → E .WorldAs w pool count
           → As E v y
@@ -376,7 +376,7 @@ module _ {M : Model} (E : Engine M) (p : Program) where
               omega (arith, leb-false (length (putCell l q u (s .cells))) 32 e, cells-length (E .TermAs) cs, put-length l q (term 0) (term z) ds) in
           simp (lt-ltb 32 (length (putCell l q (term 0) ds)) over) (erred 7 world)
 
-      mutate-as : {w : M .World} {v u : Value (M .Term)} {y z : ℕ} {pool : List ℕ} {count : ℕ} (m : Command)
+      pub mutate-as : {w : M .World} {v u : Value (M .Term)} {y z : ℕ} {pool : List ℕ} {count : ℕ} (m : Command)
           → m .target < procedureAt p (s .control .procedure) .variables
           → E .WorldAs w pool count
           → As E v y
@@ -400,7 +400,7 @@ module _ {M : Model} (E : Engine M) (p : Program) where
       mutate-as {y = y} m hx world (termAs {t} a) b =
           simp (ne-eqb (y / 4294967296) 3 (λ e. absurd (omega (arith, tag-low (E .tagged a))))) (erred 2 world)
 
-      dispose-as : {w : M .World} {v : Value (M .Term)} {y : ℕ} {pool : List ℕ} {count : ℕ} (m : Command)
+      pub dispose-as : {w : M .World} {v : Value (M .Term)} {y : ℕ} {pool : List ℕ} {count : ℕ} (m : Command)
           → m .target < procedureAt p (s .control .procedure) .variables
           → E .WorldAs w pool count
           → As E v y

@@ -245,12 +245,21 @@ each-at d zero h (more x r) = x
 each-at d (suc i) h (more x r) = each-at d i (omega arith) r
 
 module _ (p : Program) (ok : WellFormed p) (f : ℕ) (there : f < length (p .procedures)) where
-  body : List (Cmd ℕ)
-  body = procedureAt p f .body
-
   pub procedure-fits : ProcedureFits (length (p .procedures)) (procedureAt p f)
   unfolding procedureAt
   procedure-fits = each-at _ f there (ok .procedures)
+
+  -- one procedure's commands are among all
+  pub body-few : length (procedureAt p f .body) ≤ 512
+  unfolding allCommands gather procedureAt noProcedure
+  body-few =
+      let q = procedureAt p f in
+      let a = bodies (take f (p .procedures)) in
+      let r = bodies (drop (suc f) (p .procedures)) in
+      let e : bodies (p .procedures) ≡ a ++ (q .body ++ r) =
+          ap (λ (l : List Procedure). bodies l) (split-at (p .procedures) f noProcedure there)
+          ∙ gather-append (λ q. q .body) (take f (p .procedures)) (q ∷ drop (suc f) (p .procedures)) in
+      omega (arith, ok .fewCommands, ap length e, length-append a (q .body ++ r), length-append (q .body) r)
 
   code-word : (i : ℕ) → i < 3 * length (p .procedures) → codeWord (programWords p) (2 + i) ≡ getD (procedureWords 0 (p .procedures)) i 0
   unfolding codeWord procs
