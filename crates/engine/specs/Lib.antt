@@ -1,3 +1,6 @@
 pub mod State
 pub mod Frames
 pub mod Memory
+pub mod Moves
+pub mod Words
+pub mod Laws
