@@ -1,0 +1,84 @@
+-- THE THREE DEMANDS on the four calls. Read this file first: each demand is a record of what is asked of any version of the calls, and
+-- then a theorem, that the calls of document 01's definitions (crates/gil/specs/Calls.antt) meet it. The exported functions are proved to be
+-- those calls: they return what Calls says and leave every byte of lent memory as Calls says. The words used here are Reasons' (why a call
+-- refuses, and by which number) and FromBytes' (what a C caller reads from the bytes); the proofs are in Refusals and Bytes. Nothing is
+-- assumed: a list of numbers stands for bytes, a number for a budget.
+use Prim.Native.Nat.{ℕ, _≤_}
+use mathlib.Core.Path.{_≡_}
+use mathlib.Core.List.{List}
+use Rattle.gil.specs.Calls as Calls
+use Rattle.gil.specs.Calls.{PlainAnswer, TableAnswer}
+use Rattle.demands.specs.Reasons.{CheckReason, PlainReason, ExploreReason, PlaceReason, Refuses, Leaves, RunsAs, ExploresAs}
+use Rattle.demands.specs.Refusals.{check-refuses, plain-refuses, plain-untouched, plain-runs, explore-refuses, explore-leaves, explore-explores, place-refuses, place-leaves, place-explores}
+
+-- any version of the four calls: what each returns, and the bytes of lent memory afterwards
+pub record FourCalls : Type 0 where
+  pub check : (text : List ℕ) → ℕ
+  pub plain : (text inputs : List ℕ) (budget : ℕ) (lentAnswer : List ℕ) → PlainAnswer
+  pub explore : (text : List ℕ) (budget most : ℕ) (lentTable lentPool : List ℕ) → TableAnswer
+  pub place : (text inputs : List ℕ) (budget most : ℕ) (lentTable lentPool : List ℕ) → TableAnswer
+
+-- document 01's
+abbrev pub theCalls : FourCalls
+theCalls = record { check = Calls.checkCall; plain = Calls.plainCall; explore = Calls.exploreCall; place = Calls.placeCall }
+
+-- DEMAND 1. "It accepts all byte strings, budgets and input lists, always comes back, and does nothing undefined": a version is a total
+-- function. "Each call tests what it was given, and refuses by the numbered reason that comes first in our document's order, and only where
+-- one holds": for n from 1 to 10, it returns n exactly if reason n holds and no earlier one does, and it succeeds exactly if none holds.
+-- "The check call can give 3 to 8 only, the plain run 1 to 8." "Refusals 1 to 8 leave lent memory untouched; 9 and 10 leave table and pool
+-- zero."
+pub record Demand1 (c : FourCalls) : Type 0 where
+  pub check : (text : List ℕ) → Refuses (CheckReason text) 3 8 (λ r. r ≡ 0) (c .check text)
+  pub plain :
+      (text inputs : List ℕ) (budget : ℕ) (lentAnswer : List ℕ)
+      → Refuses (PlainReason text inputs budget lentAnswer) 1 8 (λ r. r ≡ 0) (c .plain text inputs budget lentAnswer .returns)
+  pub explore :
+      (text : List ℕ) (budget most : ℕ) (lentTable lentPool : List ℕ)
+      → Refuses (ExploreReason text budget most lentTable lentPool) 1 10 (λ r. r ≡ 0) (c .explore text budget most lentTable lentPool .returns)
+  pub place :
+      (text inputs : List ℕ) (budget most : ℕ) (lentTable lentPool : List ℕ)
+      → Refuses (PlaceReason text inputs budget most lentTable lentPool) 1 10 (λ r. 256 ≤ r)
+      (c .place text inputs budget most lentTable lentPool .returns)
+  -- lent memory after a refusal
+  pub plainLeaves :
+      (text inputs : List ℕ) (budget : ℕ) (lentAnswer : List ℕ)
+      → 1 ≤ c .plain text inputs budget lentAnswer .returns
+      → c .plain text inputs budget lentAnswer .answer ≡ lentAnswer
+  pub exploreLeaves :
+      (text : List ℕ) (budget most : ℕ) (lentTable lentPool : List ℕ)
+      → Leaves lentTable lentPool (c .explore text budget most lentTable lentPool)
+  pub placeLeaves :
+      (text inputs : List ℕ) (budget most : ℕ) (lentTable lentPool : List ℕ)
+      → Leaves lentTable lentPool (c .place text inputs budget most lentTable lentPool)
+
+pub demand-1 : Demand1 theCalls
+demand-1 =
+    record {
+      check = check-refuses;
+      plain = plain-refuses;
+      explore = explore-refuses;
+      place = place-refuses;
+      plainLeaves = plain-untouched;
+      exploreLeaves = explore-leaves;
+      placeLeaves = place-leaves;
+    }
+
+-- DEMAND 2. "The plain run and the table of symbolic rows are those of GIL as the Gillian paper defines it, with the memory, numbers and
+-- budgets our document fixes: outcome, value, position, step count, conditions, variables and memory, row for row in order": where no reason
+-- holds, every byte is that of the definitions' plain run, or of the definitions' table and pool; and place names the definitions' row.
+pub record Demand2 (c : FourCalls) : Type 0 where
+  pub plain :
+      (text inputs : List ℕ) (budget : ℕ) (lentAnswer : List ℕ)
+      → ((n : ℕ) → PlainReason text inputs budget lentAnswer n → ⊥)
+      → RunsAs text inputs budget lentAnswer (c .plain text inputs budget lentAnswer)
+  pub explore :
+      (text : List ℕ) (budget most : ℕ) (lentTable lentPool : List ℕ)
+      → ((n : ℕ) → ExploreReason text budget most lentTable lentPool n → ⊥)
+      → ExploresAs Calls.succeeds text budget most lentTable lentPool (c .explore text budget most lentTable lentPool)
+  pub place :
+      (text inputs : List ℕ) (budget most : ℕ) (lentTable lentPool : List ℕ)
+      → ((n : ℕ) → PlaceReason text inputs budget most lentTable lentPool n → ⊥)
+      → ExploresAs (Calls.placesIn inputs) text budget most lentTable lentPool (c .place text inputs budget most lentTable lentPool)
+
+pub demand-2 : Demand2 theCalls
+demand-2 = record { plain = plain-runs; explore = explore-explores; place = place-explores }
