@@ -1,15 +1,26 @@
 -- THE THREE DEMANDS on the four calls. Read this file first: each demand is a record of what is asked of any version of the calls, and
 -- then a theorem, that the calls of document 01's definitions (crates/gil/specs/Calls.antt) meet it. The exported functions are proved to be
 -- those calls: they return what Calls says and leave every byte of lent memory as Calls says. The words used here are Reasons' (why a call
--- refuses, and by which number) and FromBytes' (what a C caller reads from the bytes); the proofs are in Refusals and Bytes. Nothing is
+-- refuses, and by which number) and FromBytes' (what a C caller reads from the bytes); the proofs are in Refusals, PutIn and Rows. Nothing is
 -- assumed: a list of numbers stands for bytes, a number for a budget.
 use Prim.Native.Nat.{ℕ, _≤_}
-use mathlib.Core.Path.{_≡_}
-use mathlib.Core.List.{List}
+use mathlib.Core.Path.{_≡_, sym, _∙_}
+use mathlib.Core.List.{List, _++_, map}
+use lib.ListN.{length}
+use Rattle.gil.specs.Names.{Program, accepted, checkText}
+use Rattle.gil.specs.Rows.{Path, Row, cutFor, steps}
+use Rattle.gil.specs.Explore.{exploring}
+use Rattle.gil.specs.Pool.{Ref, Pool}
+use Rattle.gil.specs.Accounts.{Accounts, explorationAfter}
+use Rattle.gil.specs.Demand3.{after-every-command}
+use Rattle.gil.specs.Layout.{answerLength, inputsLength}
 use Rattle.gil.specs.Calls as Calls
 use Rattle.gil.specs.Calls.{PlainAnswer, TableAnswer}
 use Rattle.demands.specs.Reasons.{CheckReason, PlainReason, ExploreReason, PlaceReason, Refuses, Leaves, RunsAs, ExploresAs}
 use Rattle.demands.specs.Refusals.{check-refuses, plain-refuses, plain-untouched, plain-runs, explore-refuses, explore-leaves, explore-explores, place-refuses, place-leaves, place-explores}
+use Rattle.locate.specs.Inputs.{Bytes}
+use Rattle.demands.specs.FromBytes.{OneRow}
+use Rattle.demands.specs.Rows.{one-row}
 
 -- any version of the four calls: what each returns, and the bytes of lent memory afterwards
 pub record FourCalls : Type 0 where
@@ -82,3 +93,30 @@ pub record Demand2 (c : FourCalls) : Type 0 where
 
 pub demand-2 : Demand2 theCalls
 demand-2 = record { plain = plain-runs; explore = explore-explores; place = place-explores }
+
+-- DEMAND 3, over the bytes that a C caller holds. "Take that table where the exploration was not refused. Each list of sixteen inputs meets
+-- the conditions of exactly one row. The plain run on those inputs, given that row's step count as its budget, uses all of it and has the
+-- row's outcome and position, and its value or error, variables and memory once the inputs are put in; for a row cut by either budget it is
+-- cut": OneRow says it of the table's and the pool's bytes after explore, of place's answer, and of every byte after the plain run.
+pub record Demand3 (c : FourCalls) : Type 0 where
+  pub accounts :
+      (text inputs : List ℕ) (budget most : ℕ) (lentTable lentPool lentAnswer : List ℕ)
+      → length inputs ≡ inputsLength
+      → Bytes inputs
+      → answerLength ≤ length lentAnswer
+      → c .explore text budget most lentTable lentPool .returns ≡ 0
+      → OneRow inputs (c .explore text budget most lentTable lentPool .table) (c .explore text budget most lentTable lentPool .pool) lentAnswer
+      (c .place text inputs budget most lentTable lentPool .returns) (λ steps. c .plain text inputs steps lentAnswer)
+
+pub demand-3 : Demand3 theCalls
+demand-3 = record { accounts = one-row }
+
+-- "The same holds after every command of the exploration, over finished rows and waiting branches (read as cut) together": there are no
+-- bytes then, so this is said of the definitions, for the program of an accepted text.
+pub demand-3-after-every-command :
+    (text : List ℕ) {p : Program}
+    → checkText text ≡ accepted p
+    → (budget most : ℕ) (inputs : List ℕ) (commands : ℕ) (terms : Pool) (rows : List (Row Ref)) (waiting : List (Path Ref))
+    → explorationAfter p budget most commands ≡ exploring terms rows waiting
+    → Accounts p inputs terms (rows ++ map (cutFor steps) waiting)
+demand-3-after-every-command text {p} accepts = after-every-command p

@@ -27,7 +27,7 @@ use Rattle.locate.specs.Inputs.{Bytes}
 use Rattle.locate.specs.Terms.{gather-append, length-words, bit-small, value-words, words-append, length-value, ValuesAs, values-as, condition-as}
 
 -- Lists of words, and parts of them filled up with zeros
-getD-behind : (s t : List ℕ) (at n : ℕ) → at ≡ length s + n → getD (s ++ t) at 0 ≡ getD t n 0
+pub getD-behind : (s t : List ℕ) (at n : ℕ) → at ≡ length s + n → getD (s ++ t) at 0 ≡ getD t n 0
 getD-behind s t at n e = rw e (getD-append-add s t n 0)
 
 words-zeros : (n : ℕ) → Words (replicate n 0)
@@ -67,7 +67,7 @@ pub length-condition : (c : Condition Ref) → length (conditionWords refTag pla
 unfolding conditionWords
 length-condition c = refl
 
-length-outcome : (o : Outcome Ref) → length (outcomeWords refTag placeIn o) ≡ 3
+pub length-outcome : (o : Outcome Ref) → length (outcomeWords refTag placeIn o) ≡ 3
 unfolding outcomeWords endWords
 length-outcome (ended (returned v)) = ap suc (length-value v)
 length-outcome (ended (failed v)) = ap suc (length-value v)
