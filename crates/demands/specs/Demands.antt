@@ -1,7 +1,7 @@
 -- THE THREE DEMANDS on the four calls. Read this file first: each demand is a record of what is asked of any version of the calls, and
 -- then a theorem, that the calls of document 01's definitions (crates/gil/specs/Calls.antt) meet it. The exported functions are proved to be
 -- those calls: they return what Calls says and leave every byte of lent memory as Calls says. The words used here are Reasons' (why a call
--- refuses, and by which number) and FromBytes' (what a C caller reads from the bytes); the proofs are in Refusals, PutIn and Rows. Nothing is
+-- refuses, and by which number) and FromBytes' (what a C caller reads from the bytes); the proofs are in Refusals (1 and 2), PutIn, Rows and Accounted (3), and Determined. Nothing is
 -- assumed: a list of numbers stands for bytes, a number for a budget.
 use Prim.Native.Nat.{ℕ, _≤_}
 use mathlib.Core.Path.{_≡_, sym, _∙_}
@@ -20,7 +20,8 @@ use Rattle.demands.specs.Reasons.{CheckReason, PlainReason, ExploreReaso
 use Rattle.demands.specs.Refusals.{check-refuses, plain-refuses, plain-untouched, plain-runs, explore-refuses, explore-leaves, explore-explores, place-refuses, place-leaves, place-explores}
 use Rattle.locate.specs.Inputs.{Bytes}
 use Rattle.demands.specs.FromBytes.{OneRow}
-use Rattle.demands.specs.Rows.{one-row}
+use Rattle.demands.specs.Accounted.{one-row, same-exploring}
+use Rattle.demands.specs.Determined.{same-check, same-plain, same-exploration}
 
 -- any version of the four calls: what each returns, and the bytes of lent memory afterwards
 pub record FourCalls : Type 0 where
@@ -107,9 +108,16 @@ pub record Demand3 (c : FourCalls) : Type 0 where
       → c .explore text budget most lentTable lentPool .returns ≡ 0
       → OneRow inputs (c .explore text budget most lentTable lentPool .table) (c .explore text budget most lentTable lentPool .pool) lentAnswer
       (c .place text inputs budget most lentTable lentPool .returns) (λ steps. c .plain text inputs steps lentAnswer)
+  -- place leaves the table and the pool that explore leaves
+  pub places :
+      (text inputs : List ℕ) (budget most : ℕ) (lentTable lentPool : List ℕ)
+      → length inputs ≡ inputsLength
+      → c .explore text budget most lentTable lentPool .returns ≡ 0
+      → (c .place text inputs budget most lentTable lentPool .table ≡ c .explore text budget most lentTable lentPool .table)
+      × (c .place text inputs budget most lentTable lentPool .pool ≡ c .explore text budget most lentTable lentPool .pool)
 
 pub demand-3 : Demand3 theCalls
-demand-3 = record { accounts = one-row }
+demand-3 = record { accounts = one-row; places = same-exploring }
 
 -- "The same holds after every command of the exploration, over finished rows and waiting branches (read as cut) together": there are no
 -- bytes then, so this is said of the definitions, for the program of an accepted text.
@@ -120,3 +128,37 @@ pub demand-3-after-every-command :
     → explorationAfter p budget most commands ≡ exploring terms rows waiting
     → Accounts p inputs terms (rows ++ map (cutFor steps) waiting)
 demand-3-after-every-command text {p} accepts = after-every-command p
+
+-- TIGHTNESS. "Prove that two outcomes both allowed by it are the same": a promise that says what a call is, by a function of its arguments, is
+-- met by one outcome only. There is no exception.
+pub two-outcomes : {A : Type 0} {promised x y : A} → x ≡ promised → y ≡ promised → x ≡ y
+two-outcomes e f = e ∙ sym f
+
+-- And the demands themselves leave no freedom: two versions that meet demands 1 and 2 return the same and leave the same bytes, always.
+pub record Same (c d : FourCalls) : Type 0 where
+  pub check : (text : List ℕ) → c .check text ≡ d .check text
+  pub plain :
+      (text inputs : List ℕ) (budget : ℕ) (lentAnswer : List ℕ) → c .plain text inputs budget lentAnswer ≡ d .plain text inputs budget lentAnswer
+  pub explore :
+      (text : List ℕ) (budget most : ℕ) (lentTable lentPool : List ℕ)
+      → c .explore text budget most lentTable lentPool ≡ d .explore text budget most lentTable lentPool
+  pub place :
+      (text inputs : List ℕ) (budget most : ℕ) (lentTable lentPool : List ℕ)
+      → c .place text inputs budget most lentTable lentPool ≡ d .place text inputs budget most lentTable lentPool
+
+pub determined : (c d : FourCalls) → Demand1 c → Demand2 c → Demand1 d → Demand2 d → Same c d
+determined c d c1 c2 d1 d2 =
+    record {
+      check = λ s. same-check (c1 .check s) (d1 .check s);
+      plain =
+          λ s i n l.
+          same-plain (c1 .plain s i n l) (d1 .plain s i n l) (c1 .plainLeaves s i n l) (d1 .plainLeaves s i n l) (c2 .plain s i n l) (d2 .plain s i n l);
+      explore =
+          λ s n m t w.
+          same-exploration (c1 .explore s n m t w) (d1 .explore s n m t w) (c1 .exploreLeaves s n m t w) (d1 .exploreLeaves s n m t w)
+          (c2 .explore s n m t w) (d2 .explore s n m t w);
+      place =
+          λ s i n m t w.
+          same-exploration (c1 .place s i n m t w) (d1 .place s i n m t w) (c1 .placeLeaves s i n m t w) (d1 .placeLeaves s i n m t w)
+          (c2 .place s i n m t w) (d2 .place s i n m t w);
+    }

@@ -1,6 +1,8 @@
+pub mod Demands
 pub mod Reasons
-pub mod Refusals
 pub mod FromBytes
+pub mod Refusals
+pub mod Determined
 pub mod PutIn
 pub mod Rows
-pub mod Demands
+pub mod Accounted

@@ -1,38 +1,27 @@
--- Demand 3 over the bytes: what is read from the bytes of a sound table is what demand 3 says of the definitions' rows; and so of what
--- explore, place and the plain run leave. Assumes nothing.
+-- A sound table read from its bytes: each row's conditions, steps and words, and the row that inputs fall in, are those that demand 3 speaks
+-- of over the definitions' rows. Assumes nothing.
 use Prim.Native.Nat.{ℕ, zero, suc, _+_, _*_, _≤_, _<_}
 use native.Mathlib.Omega.{arith}
 use mathlib.Core.Path.{_≡_, refl, sym, _∙_, ap, ap₂, subst}
-use mathlib.Core.Bool.{Bool, true, false, not, _&&_, _||_}
+use mathlib.Core.Bool.{true}
 use mathlib.Core.List.{List, [], _∷_, _++_, append-assoc}
-use lib.ListN.{length, getD, drop, replicate}
-use lib.Dec.{ltb, leb, eqb}
-use borrow.Author.Tests.{ltb-true, ltb-false, leb-true, leb-false, le-ltb, eq-eqb}
-use Rattle.gil.specs.Names.{Program, accepted, gather, checkText}
+use lib.ListN.{length, getD}
+use Rattle.gil.specs.Names.{Program, gather}
 use Rattle.gil.specs.Values.{Constant}
 use Rattle.gil.specs.Rows.{Row}
 use Rattle.gil.specs.Plain.{plainRun}
-use Rattle.gil.specs.Explore.{explored}
-use Rattle.gil.specs.Pool.{Ref, placeIn, Pool, table, valueOf, poolValues, meets, placed}
+use Rattle.gil.specs.Pool.{Ref, placeIn, Pool, valueOf, poolValues, meets}
 use Rattle.gil.specs.Accounts.{putIn, Stands, here, further, Accounts}
-use Rattle.gil.specs.Demand3.{of-the-table}
-use Rattle.gil.specs.Theory.Tests.{no-false}
-use Rattle.gil.specs.Layout.{tableLength, poolLength, answerLength, inputsLength, wordBytes, rowWords, rowBytes, headWords, outcomeWords, room, refTag, noNumber, tableBytes, poolBytes, answerBytes, inputWords}
-use Rattle.gil.specs.Calls as Calls
-use Rattle.gil.specs.Calls.{PlainAnswer, TableAnswer}
+use Rattle.gil.specs.Layout.{wordBytes, rowWords, rowBytes, headWords, outcomeWords, room, refTag, tableBytes, poolBytes, answerBytes, inputWords}
 use Rattle.code.specs.WellFormed as WellFormed
 use Rattle.code.specs.WellFormed.{Each}
-use Rattle.code.specs.Accepted.{accepted-well-formed}
 use Rattle.words.specs.Words.{wordAt}
-use Rattle.locate.specs.Located.{atMost, valuesTo}
+use Rattle.locate.specs.Located.{atMost}
 use Rattle.locate.specs.Sound.{RowFits, Sound}
 use Rattle.locate.specs.Inputs.{Bytes}
 use Rattle.locate.specs.Terms.{ValuesAs, values-as}
 use Rattle.locate.specs.Laws.{RowAt, row-at, row-count, term-count, row-holds, length-row, length-outcome, getD-behind, all-of}
-use Rattle.locate.specs.Exploring.{exploring-sound}
-use Rattle.demands.specs.Reasons.{Never, Reason, ofBudgets, ofLists, ofText, ofExploring, PlainReason, ExploreReason, PlaceReason, RunsAs, ExploresAs}
-use Rattle.demands.specs.Refusals.{plain-runs, explore-refuses, explore-explores, place-explores}
-use Rattle.demands.specs.FromBytes.{rowsIn, wordsAt, rowIn, stepsIn, valuesIn, meetsRow, putRow, putInBytes, OneRow}
+use Rattle.demands.specs.FromBytes.{rowsIn, wordsAt, rowIn, stepsIn, valuesIn, meetsRow, putRow, putInBytes}
 use Rattle.demands.specs.PutIn.{row-put}
 
 -- words read one after another
@@ -77,14 +66,14 @@ unfolding rowWords headWords room
 steps-word r = simp append-assoc (getD-behind (outcomeWords refTag placeIn (r .outcome)) _ 3 0 (rw length-outcome refl))
 
 -- the row that inputs fall in, found from the bytes alone
-record Found (T P inputs : List ℕ) (p : Program) (place : ℕ) : Type 0 where
-  row : ℕ
-  there : row < rowsIn T
-  met : meetsRow T P inputs row ≡ true
-  only : (k : ℕ) → k < rowsIn T → meetsRow T P inputs k ≡ true → k ≡ row
-  placed : place ≡ row
-  few : stepsIn T row ≤ 1024
-  ran : answerBytes (plainRun p (inputWords inputs) (stepsIn T row)) ≡ putInBytes T P inputs row
+pub record Found (T P inputs : List ℕ) (p : Program) (place : ℕ) : Type 0 where
+  pub row : ℕ
+  pub there : row < rowsIn T
+  pub met : meetsRow T P inputs row ≡ true
+  pub only : (k : ℕ) → k < rowsIn T → meetsRow T P inputs k ≡ true → k ≡ row
+  pub placed : place ≡ row
+  pub few : stepsIn T row ≤ 1024
+  pub ran : answerBytes (plainRun p (inputWords inputs) (stepsIn T row)) ≡ putInBytes T P inputs row
 
 module _ {w : Pool} {rows : List (Row Ref)} (s : Sound w rows) (extra rest inputs : List ℕ) (long : length inputs ≡ 64) (bytes : Bytes inputs) where
   abbrev T : List ℕ
@@ -137,7 +126,7 @@ module _ {w : Pool} {rows : List (Row Ref)} (s : Sound w rows) (extra rest input
     put-read = ap (λ (l : List ℕ). gather wordBytes (putRow (valuesIn T P inputs) l)) row-read ∙ ap (gather wordBytes) (row-put values-read fits)
 
   -- the row that the definitions account for
-  accounted-found :
+  pub accounted-found :
       (p : Program) (place : ℕ) (a : Accounts p (inputWords inputs) w rows) → place ≡ a .place → Found T P inputs p place
   accounted-found p place a e =
       record {
@@ -155,119 +144,3 @@ module _ {w : Pool} {rows : List (Row Ref)} (s : Sound w rows) (extra rest input
             ∙ ap answerBytes (a .ran)
             ∙ sym (put-read (a .stands));
       }
-
--- What is known of the arguments of an exploration that was not refused
-budgets-within : (budget most : ℕ) → (Calls.wrongBudgets budget most ≡ true → ⊥) → (budget ≤ 1024) × (most ≤ 16)
-unfolding Calls.wrongBudgets
-budgets-within budget most f = at (leb 1 budget) (leb budget 1024) refl (ltb 16 most) refl f
-  where
-    at :
-        (a b : Bool) → leb budget 1024 ≡ b → (c : Bool) → ltb 16 most ≡ c → (not (a && b) || c ≡ true → ⊥) → (budget ≤ 1024) × (most ≤ 16)
-    at true true d false e g = (leb-true budget 1024 d, ltb-false 16 most e)
-    at true true d true e g = absurd (g refl)
-    at true false d c e g = absurd (g refl)
-    at false b d c e g = absurd (g refl)
-
-inputs-right : (inputs : List ℕ) → length inputs ≡ inputsLength → Calls.wrongInputs inputs ≡ false
-unfolding Calls.wrongInputs
-inputs-right inputs long = ap not (eq-eqb (length inputs) 64 long)
-
-budget-right : (steps : ℕ) → steps ≤ 1024 → Calls.wrongBudget steps ≡ false
-unfolding Calls.wrongBudget
-budget-right steps h = le-ltb 1024 steps h
-
-module _ (text inputs : List ℕ) (budget most : ℕ) (t w answer : List ℕ) (long : length inputs ≡ inputsLength) where
-  -- place and the plain run have no reason either
-  place-reason : {n : ℕ} → PlaceReason text inputs budget most t w n → ExploreReason text budget most t w n
-  place-reason (ofBudgets e) = ofBudgets e
-  place-reason (ofLists e) = ofLists (ap (λ (b : Bool). b || Calls.shortTables t w) (sym (inputs-right inputs long)) ∙ e)
-  place-reason (ofText r) = ofText r
-  place-reason (ofExploring r) = ofExploring r
-
-  plain-reason :
-      (steps : ℕ) → steps ≤ 1024 → answerLength ≤ length answer → {n : ℕ} → PlainReason text inputs steps answer n
-      → ExploreReason text budget most t w n
-  plain-reason steps h g (ofBudgets e) = no-false e (budget-right steps h)
-  plain-reason steps h g (ofLists e) =
-      no-false e (ap₂ (λ (a b : Bool). a || b) (inputs-right inputs long) (le-ltb (length answer) answerLength g))
-  plain-reason steps h g (ofText r) = ofText r
-  plain-reason steps h g (ofExploring r) = elim r [ ]
-
-  found :
-      {p : Program} {terms : Pool} {rows : List (Row Ref)} (extra rest : List ℕ) → Bytes inputs
-      → ((n : ℕ) → ExploreReason text budget most t w n → ⊥)
-      → checkText text ≡ accepted p
-      → table p budget most ≡ explored terms rows
-      → Found (tableBytes terms rows ++ extra) (poolBytes terms ++ rest) inputs p (placed (inputWords inputs) terms rows)
-  found {p} {terms} {rows} extra rest bytes none reads explores =
-      let (small, few) = budgets-within budget most (λ e. none 1 (ofBudgets e)) in
-      let s : Sound terms rows = exploring-sound budget most (accepted-well-formed text p reads) small few explores in
-      let (a, e) = of-the-table p budget most (inputWords inputs) terms rows explores in
-      accounted-found s extra rest inputs long bytes p (placed (inputWords inputs) terms rows) a e
-
-  -- a text has one program, and a program one table
-  tables-agree :
-      {a : TableAnswer} {succeed : Pool → List (Row Ref) → ℕ} {p : Program} {terms : Pool} {rows : List (Row Ref)}
-      → ExploresAs succeed text budget most t w a
-      → checkText text ≡ accepted p
-      → table p budget most ≡ explored terms rows
-      → a .returns ≡ succeed terms rows
-  tables-agree {a} {succeed} {p} {terms} {rows} y e f =
-      let r : checkText text ≡ accepted (y .program) = y .reads in
-      let same : y .program ≡ p = cc in
-      let g : table p budget most ≡ explored (y .terms) (y .rows) = ap (λ (q : Program). table q budget most) (sym same) ∙ y .explores in
-      let u : y .terms ≡ terms = cc in
-      let v : y .rows ≡ rows = cc in
-      ap (λ (b : TableAnswer). b .returns) (y .is) ∙ ap₂ succeed u v
-
-  runs-agree :
-      {a : PlainAnswer} {p : Program} {n : ℕ} → RunsAs text inputs n answer a → checkText text ≡ accepted p
-      → a ≡ record { returns = 0; answer = answerBytes (plainRun p (inputWords inputs) n) ++ drop answerLength answer }
-  runs-agree {p = p} {n = n} z e =
-      let r : checkText text ≡ accepted (z .program) = z .reads in
-      let same : z .program ≡ p = cc in
-      z .is
-      ∙ ap
-      (λ (q : Program). record { returns = 0; answer = answerBytes (plainRun q (inputWords inputs) n) ++ drop answerLength answer })
-      same
-
-  module _ (bytes : Bytes inputs) (room : answerLength ≤ length answer) (none : (n : ℕ) → ExploreReason text budget most t w n → ⊥) where
-    from-found :
-        {p : Program} {terms : Pool} {rows : List (Row Ref)} → checkText text ≡ accepted p → table p budget most ≡ explored terms rows
-        → OneRow inputs (tableBytes terms rows ++ drop tableLength t) (poolBytes terms ++ drop poolLength w) answer
-        (Calls.placeCall text inputs budget most t w .returns) (λ steps. Calls.plainCall text inputs steps answer)
-    unfolding Calls.placesIn
-    from-found {p} {terms} {rows} reads explores =
-        let f = found (drop tableLength t) (drop poolLength w) bytes none reads explores in
-        let n : ℕ = stepsIn (tableBytes terms rows ++ drop tableLength t) (f .row) in
-        record {
-          row = f .row;
-          there = f .there;
-          met = f .met;
-          only = f .only;
-          placed =
-              tables-agree (place-explores text inputs budget most t w (λ k r. none k (place-reason r))) reads explores
-              ∙ ap (λ (k : ℕ). 256 + k) (f .placed);
-          ran =
-              runs-agree (plain-runs text inputs n answer (λ k r. none k (plain-reason n (f .few) room r))) reads
-              ∙ ap (λ (l : List ℕ). record { returns = 0; answer = l ++ drop answerLength answer }) (f .ran);
-        }
-
-    from-tables :
-        {a : TableAnswer} → ExploresAs Calls.succeeds text budget most t w a
-        → OneRow inputs (a .table) (a .pool) answer (Calls.placeCall text inputs budget most t w .returns)
-        (λ steps. Calls.plainCall text inputs steps answer)
-    from-tables x =
-        subst
-        (λ (b : TableAnswer).
-        OneRow inputs (b .table) (b .pool) answer (Calls.placeCall text inputs budget most t w .returns)
-        (λ steps. Calls.plainCall text inputs steps answer))
-        (sym (x .is)) (from-found (x .reads) (x .explores))
-
-  pub one-row :
-      Bytes inputs → answerLength ≤ length answer → Calls.exploreCall text budget most t w .returns ≡ 0
-      → OneRow inputs (Calls.exploreCall text budget most t w .table) (Calls.exploreCall text budget most t w .pool) answer
-      (Calls.placeCall text inputs budget most t w .returns) (λ steps. Calls.plainCall text inputs steps answer)
-  one-row bytes room success =
-      let none : (n : ℕ) → ExploreReason text budget most t w n → ⊥ = explore-refuses text budget most t w .otherwise .0 success in
-      from-tables bytes room none (explore-explores text budget most t w none)
