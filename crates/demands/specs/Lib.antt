@@ -6,3 +6,5 @@ pub mod Determined
 pub mod PutIn
 pub mod Rows
 pub mod Accounted
+pub mod Examples
+pub mod WrongVersions

@@ -48,7 +48,7 @@ around (further {b = b} s) =
     let r = around s in
     record { before = b ∷ r .before; behind = r .behind; is = ap (λ (t : List _). b ∷ t) (r .is); long = ap suc (r .long) }
 
-each-at : {A : Type 0} {P : A → Type 0} {k : ℕ} {a : A} {l : List A} → Each P l → Stands k a l → P a
+pub each-at : {A : Type 0} {P : A → Type 0} {k : ℕ} {a : A} {l : List A} → Each P l → Stands k a l → P a
 each-at (WellFormed.more p ps) here = p
 each-at (WellFormed.more p ps) (further s) = each-at ps s
 
@@ -64,6 +64,14 @@ standing (suc k) (a ∷ l) h = let (b, s) = standing k l (omega arith) in (b, fu
 steps-word : (r : Row Ref) → getD (rowWords refTag placeIn r) 3 0 ≡ r .steps
 unfolding rowWords headWords room
 steps-word r = simp append-assoc (getD-behind (outcomeWords refTag placeIn (r .outcome)) _ 3 0 (rw length-outcome refl))
+
+-- a row of a sound table stands where it is read
+pub stands-at :
+    {w : Pool} {rows : List (Row Ref)} → Sound w rows → (extra : List ℕ) → {k : ℕ} {r : Row Ref} → Stands k r rows
+    → RowAt (tableBytes w rows ++ extra) k r
+stands-at {w} {rows} s extra {r = r} stands =
+    let a = around stands in
+    subst (λ (j : ℕ). RowAt (tableBytes w rows ++ extra) j r) (a .long) (row-at s extra (a .before) (a .behind) r (a .is))
 
 -- the row that inputs fall in, found from the bytes alone
 pub record Found (T P inputs : List ℕ) (p : Program) (place : ℕ) : Type 0 where
@@ -100,18 +108,13 @@ module _ {w : Pool} {rows : List (Row Ref)} (s : Sound w rows) (extra rest input
     fits : RowFits w r
     fits = each-at (s .rows) stands
 
-    stands-at : RowAt T k r
-    stands-at =
-        let a = around stands in
-        subst (λ (j : ℕ). RowAt (tableBytes w rows ++ extra) j r) (a .long) (row-at s extra (a .before) (a .behind) r (a .is))
-
-    meets-read : meetsRow T P inputs k ≡ meets cs (r .conditions)
+    pub meets-read : meetsRow T P inputs k ≡ meets cs (r .conditions)
     unfolding meetsRow
-    meets-read = row-holds values-read T k stands-at fits
+    meets-read = row-holds values-read T k (stands-at s extra stands) fits
 
     steps-read : stepsIn T k ≡ r .steps
     unfolding stepsIn RowAt
-    steps-read = stands-at (64 + 1024 * k + 12) 3 (omega arith) (omega arith) ∙ steps-word r
+    steps-read = stands-at s extra stands (64 + 1024 * k + 12) 3 (omega arith) (omega arith) ∙ steps-word r
 
     row-read : rowIn T k ≡ rowWords refTag placeIn r
     unfolding rowIn RowAt
@@ -119,9 +122,9 @@ module _ {w : Pool} {rows : List (Row Ref)} (s : Sound w rows) (extra rest input
         let n : length (rowWords refTag placeIn r) ≡ 256 = length-row (s .fewTerms) fits in
         ap (wordsAt T (64 + 1024 * k)) (sym n)
         ∙ words-read T (64 + 1024 * k) (rowWords refTag placeIn r)
-        (λ j h. stands-at (64 + 1024 * k + 4 * j) j (omega arith) refl)
+        (λ j h. stands-at s extra stands (64 + 1024 * k + 4 * j) j (omega arith) refl)
 
-    put-read : putInBytes T P inputs k ≡ answerBytes (putIn (valueOf cs) r)
+    pub put-read : putInBytes T P inputs k ≡ answerBytes (putIn (valueOf cs) r)
     unfolding putInBytes answerBytes rowBytes
     put-read = ap (λ (l : List ℕ). gather wordBytes (putRow (valuesIn T P inputs) l)) row-read ∙ ap (gather wordBytes) (row-put values-read fits)
 
