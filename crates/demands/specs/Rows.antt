@@ -93,7 +93,7 @@ module _ {w : Pool} {rows : List (Row Ref)} (s : Sound w rows) (extra rest input
   abbrev cs : List Constant
   cs = poolValues (inputWords inputs) w
 
-  rows-read : rowsIn T ≡ length rows
+  pub rows-read : rowsIn T ≡ length rows
   unfolding rowsIn
   rows-read = row-count s extra
 
@@ -112,7 +112,7 @@ module _ {w : Pool} {rows : List (Row Ref)} (s : Sound w rows) (extra rest input
     unfolding meetsRow
     meets-read = row-holds values-read T k (stands-at s extra stands) fits
 
-    steps-read : stepsIn T k ≡ r .steps
+    pub steps-read : stepsIn T k ≡ r .steps
     unfolding stepsIn RowAt
     steps-read = stands-at s extra stands (64 + 1024 * k + 12) 3 (omega arith) (omega arith) ∙ steps-word r
 

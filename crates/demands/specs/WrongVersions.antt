@@ -1,33 +1,38 @@
 -- "See these rejected": wrong versions of the calls, and for each the demand that refuses it, as a theorem. docs/WRONG-VERSIONS.md lists them.
 -- A version is refused if it is wrong on one text that a demand speaks of; the texts are those of examples 1 and 8. Assumes nothing.
-use Prim.Native.Nat.{ℕ, _+_, _*_, _%_, _≤_, _<_}
+use Prim.Native.Nat.{ℕ, zero, suc, _+_, _*_, _%_, _≤_, _<_}
 use native.Mathlib.Omega.{arith}
 use mathlib.Core.Path.{_≡_, refl, sym, _∙_, ap, ap₂, subst}
-use mathlib.Core.Bool.{Bool, false, _||_}
+use mathlib.Core.Bool.{Bool, true, false, _&&_, _||_}
 use mathlib.Core.List.{List, [], _∷_, _++_}
 use lib.ListN.{length, getD, drop, replicate, length-replicate}
 use lib.Dec.{ltb}
-use borrow.Author.Tests.{le-ltb}
+use borrow.Author.Tests.{ltb-true, le-ltb}
 use Rattle.gil.specs.Names.{Program, Checked, accepted, gather, checkText}
 use Rattle.gil.specs.Machine.{vanished}
-use Rattle.gil.specs.Rows.{Row, Outcome, ended, cut, steps}
-use Rattle.gil.specs.Explore.{Explored, explored}
-use Rattle.gil.specs.Pool.{Ref, placeIn, Pool, table}
-use Rattle.gil.specs.Accounts.{Stands, here, further}
+use Rattle.gil.specs.Rows.{Row, Outcome, ended, cut, steps, cutFor}
+use Rattle.gil.specs.Explore.{Explored, explored, begin, afterCommands}
+use Rattle.gil.specs.Values.{Constant}
+use Rattle.gil.specs.Pool.{Ref, placeIn, Pool, pooled, table, valueOf}
+use Rattle.gil.specs.Accounts.{putEnd, putVariable, rowWith, putOutcome, putIn, Stands, here, further, Accounts, explorationAfter}
+use Rattle.gil.specs.Demand3.{after-every-command}
 use Rattle.gil.specs.Plain.{plainRun}
+use Rattle.gil.specs.Theory.Tests.{and-left, and-right}
 use Rattle.gil.specs.Layout.{tableLength, poolLength, answerLength, inputsLength, wordBytes, rowBytes, room, constantWords, valueWords, reasonCode, endWords, outcomeWords, headWords, rowWords, refTag, tableBytes, poolBytes, answerBytes, inputWords}
 use Rattle.gil.specs.Calls as Calls
 use Rattle.gil.specs.Calls.{PlainAnswer, TableAnswer}
 use Rattle.code.specs.WellFormed.{Each, none, more}
 use Rattle.code.specs.Accepted.{accepted-well-formed}
 use Rattle.words.specs.Words.{wordAt}
+use Rattle.locate.specs.Inputs.{Bytes}
 use Rattle.locate.specs.Sound.{Sound, RowFits, OutcomeFits, fitsEnded, fitsVanished, fitsCut}
 use Rattle.locate.specs.Exploring.{exploring-sound}
 use Rattle.locate.specs.Laws.{RowAt, row-count}
 use Rattle.demands.specs.Reasons.{CheckReason, PlainReason, ExploreReason, PlaceReason, First}
-use Rattle.demands.specs.Refusals.{check-refuses, plain-refuses, explore-refuses, place-refuses}
+use Rattle.demands.specs.Refusals.{check-refuses, plain-refuses, plain-runs, explore-refuses, place-refuses}
 use Rattle.demands.specs.Determined.{ran-as, explored-as}
-use Rattle.demands.specs.Rows.{each-at, stands-at, meets-read, put-read}
+use Rattle.demands.specs.FromBytes.{rowsIn, stepsIn, meetsRow, putInBytes, OneRow}
+use Rattle.demands.specs.Rows.{each-at, stands-at, rows-read, meets-read, steps-read, put-read}
 use Rattle.demands.specs.Examples.{text8, program8, row8, textA, programA, termsA, rowA, rowA′, inputs38, computed}
 use Rattle.demands.specs.Demands.{FourCalls, Demand1, Demand2, Demand3}
 
@@ -289,3 +294,120 @@ module _ (c : FourCalls) (d : Demand2 c) where
       same-word sound-A sound-twice (drop tableLength lentTable) (further here) (further here) 0 (omega arith)
       (sym (table-of textA (computed .readsA) (computed .tableA)) ∙ e) in
       omega arith
+
+-- every number of a list is a byte
+allSmall : List ℕ → Bool
+allSmall [] = true
+allSmall (a ∷ l) = ltb a 256 && allSmall l
+
+small-bytes : (l : List ℕ) → allSmall l ≡ true → Bytes l
+unfolding allSmall
+small-bytes [] e k = omega arith
+small-bytes (a ∷ l) e zero = ltb-true a 256 (and-left (ltb a 256) (allSmall l) e)
+small-bytes (a ∷ l) e (suc k) = small-bytes l (and-right (ltb a 256) (allSmall l) e) k
+
+bytes-38 : Bytes inputs38
+unfolding inputs38 allSmall
+bytes-38 = small-bytes inputs38 refl
+
+long-38 : length inputs38 ≡ inputsLength
+unfolding inputs38
+long-38 = refl
+
+bytes-none : Bytes noInputs
+unfolding noInputs allSmall
+bytes-none = small-bytes noInputs refl
+
+long-none : length noInputs ≡ inputsLength
+unfolding noInputs
+long-none = refl
+
+answer-room : answerLength ≤ length lentAnswer
+unfolding lentAnswer
+answer-room = let e : length {A = ℕ} (replicate answerLength 0) ≡ answerLength = length-replicate {A = ℕ} answerLength 0 in omega arith
+
+-- example 8's row with inputs put in, and its steps
+put-8 : (n : ℕ) (cs : List Constant) → putIn (valueOf cs) (row8 (ended vanished) n) ≡ row8 (ended vanished) n
+unfolding row8 putIn rowWith putOutcome putEnd putVariable valueOf
+put-8 n cs = refl
+
+steps-8 : (n : ℕ) {m : ℕ} → m ≡ row8 {T = Ref} (ended vanished) n .steps → m ≡ n
+unfolding row8
+steps-8 n e = e
+
+-- a table of wrong rows, with the surplus of lent memory
+abbrev wrongTable : Pool → List (Row Ref) → TableAnswer
+wrongTable terms rows =
+    record { returns = 0; table = tableBytes terms rows ++ drop tableLength lentTable; pool = poolBytes terms ++ drop poolLength lentPool }
+
+module _ (c : FourCalls) (d : Demand3 c) where
+  -- what demand 3 says of what a version left
+  row-among :
+      (text inputs : List ℕ) → length inputs ≡ inputsLength → Bytes inputs → (a : TableAnswer)
+      → c .explore text 1024 16 lentTable lentPool ≡ a
+      → a .returns ≡ 0
+      → OneRow inputs (a .table) (a .pool) lentAnswer (c .place text inputs 1024 16 lentTable lentPool .returns)
+      (λ n. c .plain text inputs n lentAnswer)
+  row-among text inputs long bytes a e success =
+      subst
+      (λ (b : TableAnswer).
+      OneRow inputs (b .table) (b .pool) lentAnswer (c .place text inputs 1024 16 lentTable lentPool .returns)
+      (λ n. c .plain text inputs n lentAnswer))
+      e
+      (d .accounts text inputs 1024 16 lentTable lentPool lentAnswer long bytes answer-room
+      (ap (λ (b : TableAnswer). b .returns) e ∙ success))
+
+  -- THE FIRST PATH AND AN INVENTED REST (demand 3): the inputs 3 and 8 meet both rows' conditions
+  pub no-invented-rest-3 : c .explore textA 1024 16 lentTable lentPool ≡ wrongTable termsA (rowA ∷ rowA ∷ []) → ⊥
+  no-invented-rest-3 e =
+      let x : List ℕ = drop tableLength lentTable in
+      let y : List ℕ = drop poolLength lentPool in
+      let o = row-among textA inputs38 long-38 bytes-38 (wrongTable termsA (rowA ∷ rowA ∷ [])) e refl in
+      let rows : rowsIn (tableBytes termsA (rowA ∷ rowA ∷ []) ++ x) ≡ 2 = rows-read sound-twice x y inputs38 long-38 bytes-38 in
+      let first : 0 ≡ o .row = o .only 0 (omega arith) (meets-read sound-twice x y inputs38 long-38 bytes-38 here ∙ computed .meetsA) in
+      let second : 1 ≡ o .row = o .only 1 (omega arith) (meets-read sound-twice x y inputs38 long-38 bytes-38 (further here) ∙ computed .meetsA) in
+      omega arith
+
+  -- A MADE-UP COUNT OF STEPS (demand 3): the plain run given seven steps uses one
+  pub no-made-up-steps-3 :
+      c .explore text8 1024 16 lentTable lentPool ≡ wrongTable [] (row8 (ended vanished) 7 ∷ [])
+      → c .plain text8 noInputs 7 lentAnswer ≡ Calls.plainCall text8 noInputs 7 lentAnswer
+      → ⊥
+  unfolding Calls.wrongBudget
+  no-made-up-steps-3 e f =
+      let x : List ℕ = drop tableLength lentTable in
+      let y : List ℕ = drop poolLength lentPool in
+      let z : List ℕ = drop answerLength lentAnswer in
+      let T : List ℕ = tableBytes [] (row8 (ended vanished) 7 ∷ []) ++ x in
+      let s : Sound [] (row8 (ended vanished) 7 ∷ []) = sound-made-up (ended vanished) 7 (fitsEnded fitsVanished) (omega arith) in
+      let o = row-among text8 noInputs long-none bytes-none (wrongTable [] (row8 (ended vanished) 7 ∷ [])) e refl in
+      let rows : rowsIn T ≡ 1 = rows-read s x y noInputs long-none bytes-none in
+      let there : o .row < rowsIn T = o .there in
+      let only : o .row ≡ 0 = omega arith in
+      let seven : stepsIn T 0 ≡ 7 = steps-8 7 (steps-read s x y noInputs long-none bytes-none here) in
+      let put : putInBytes T (poolBytes [] ++ y) noInputs 0 ≡ answerBytes (row8 (ended vanished) 7) =
+      put-read s x y noInputs long-none bytes-none here ∙ ap answerBytes (put-8 7 _) in
+      let ran : c .plain text8 noInputs (stepsIn T 0) lentAnswer ≡ record { returns = 0; answer = putInBytes T (poolBytes [] ++ y) noInputs 0 ++ z } =
+      subst
+      (λ (k : ℕ).
+      c .plain text8 noInputs (stepsIn T k) lentAnswer ≡ record { returns = 0; answer = putInBytes T (poolBytes [] ++ y) noInputs k ++ z })
+      only (o .ran) in
+      let right : Calls.plainCall text8 noInputs 7 lentAnswer ≡ record { returns = 0; answer = answerBytes (plainRun program8 (inputWords noInputs) 7) ++ z } =
+      ran-as (plain-runs text8 noInputs 7 lentAnswer (plain-none text8 (computed .reads8) (computed .table8) 7 refl)) (computed .reads8) in
+      let same : answerBytes (row8 (ended vanished) 1) ++ z ≡ answerBytes (row8 (ended vanished) 7) ++ z =
+      ap (λ (r : Row ⊥). answerBytes r ++ z) (sym (computed .run8 (inputWords noInputs)))
+      ∙ ap (λ (a : PlainAnswer). a .answer)
+      (sym right ∙ sym f ∙ ap (λ (n : ℕ). c .plain text8 noInputs n lentAnswer) (sym seven) ∙ ran)
+      ∙ ap (λ (l : List ℕ). l ++ z) put in
+      let wrong : _≡_ {A = ℕ} 1 7 = sym (steps-byte 1 z) ∙ ap (λ (l : List ℕ). getD l 12 0) same ∙ steps-byte 7 z in
+      omega arith
+
+-- "One row cut at nought steps would satisfy demand 3 alone, so 3 is stated over demand 2's table": it accounts for all inputs, as after no
+-- command of the exploration
+pub cutAtNought : Program → Row Ref
+unfolding pooled
+cutAtNought p = cutFor steps (begin pooled p)
+
+pub nought-accounts : (p : Program) (inputs : List ℕ) → Accounts p inputs [] (cutAtNought p ∷ [])
+unfolding cutAtNought explorationAfter afterCommands pooled
+nought-accounts p inputs = after-every-command p 1024 16 inputs 0 [] [] (begin pooled p ∷ []) refl
