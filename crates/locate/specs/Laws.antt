@@ -26,7 +26,7 @@ use Rattle.locate.specs.Inputs.{Bytes}
 use Rattle.locate.specs.Terms.{gather-append, length-words, bit-small, value-words, words-append, length-value, ValuesAs, values-as, condition-as}
 
 -- Lists of words, and parts of them filled up with zeros
-getD-behind : (s t : List ℕ) (at n : ℕ) → at ≡ length s + n → getD (s ++ t) at 0 ≡ getD t n 0
+pub getD-behind : (s t : List ℕ) (at n : ℕ) → at ≡ length s + n → getD (s ++ t) at 0 ≡ getD t n 0
 getD-behind s t at n e = rw e (getD-append-add s t n 0)
 
 words-zeros : (n : ℕ) → Words (replicate n 0)
@@ -37,7 +37,7 @@ words-room : {ws : List ℕ} (n : ℕ) → Words ws → Words (room n ws)
 unfolding room
 words-room {ws} n f = words-append f (words-zeros (n - length ws))
 
-length-room : (n : ℕ) (ws : List ℕ) → length ws ≤ n → length (room n ws) ≡ n
+pub length-room : (n : ℕ) (ws : List ℕ) → length ws ≤ n → length (room n ws) ≡ n
 unfolding room
 length-room n ws h = simp (length-append, length-replicate) (omega arith)
 
@@ -47,26 +47,26 @@ words-gather g WellFormed.none = none
 words-gather g (WellFormed.more p ps) = words-append (g _ p) (words-gather g ps)
 
 -- parts of one length
-length-parts : {A : Type 0} (f : A → List ℕ) (k : ℕ) → ((a : A) → length (f a) ≡ k) → (l : List A) → length (gather f l) ≡ k * length l
+pub length-parts : {A : Type 0} (f : A → List ℕ) (k : ℕ) → ((a : A) → length (f a) ≡ k) → (l : List A) → length (gather f l) ≡ k * length l
 unfolding gather
 length-parts f k g [] = omega arith
 length-parts f k g (a ∷ l) = let h : _ ≡ _ = length-parts f k g l in simp (length-append, g, mul-suc) (omega arith)
 
 -- The words of a row
-length-variable : (v : _) → length (variableWords refTag placeIn v) ≡ 2
+pub length-variable : (v : _) → length (variableWords refTag placeIn v) ≡ 2
 unfolding variableWords
 length-variable mathlib.Core.Option.none = refl
 length-variable (mathlib.Core.Option.some v) = length-value v
 
-length-cell : (c : Cell Ref) → length (cellWords refTag placeIn c) ≡ 4
+pub length-cell : (c : Cell Ref) → length (cellWords refTag placeIn c) ≡ 4
 unfolding cellWords
 length-cell c = ap (λ (n : ℕ). suc (suc n)) (length-value (c .value))
 
-length-condition : (c : Condition Ref) → length (conditionWords refTag placeIn c) ≡ 2
+pub length-condition : (c : Condition Ref) → length (conditionWords refTag placeIn c) ≡ 2
 unfolding conditionWords
 length-condition c = refl
 
-length-outcome : (o : Outcome Ref) → length (outcomeWords refTag placeIn o) ≡ 3
+pub length-outcome : (o : Outcome Ref) → length (outcomeWords refTag placeIn o) ≡ 3
 unfolding outcomeWords endWords
 length-outcome (ended (returned v)) = ap suc (length-value v)
 length-outcome (ended (failed v)) = ap suc (length-value v)
@@ -74,7 +74,7 @@ length-outcome (ended vanished) = refl
 length-outcome (ended (error n)) = refl
 length-outcome (cut why) = refl
 
-length-head : (r : Row Ref) → length (headWords refTag placeIn r) ≡ 16
+pub length-head : (r : Row Ref) → length (headWords refTag placeIn r) ≡ 16
 unfolding headWords
 length-head r = length-room 16 _ (simp (length-append, length-outcome) (omega arith))
 
@@ -123,7 +123,7 @@ module _ {w : Pool} (few : length w ≤ 2048) where
       (words-room 128 (words-gather cell-words (f .cells .cells))))
       (words-zeros 48)
 
-  length-row : {r : Row Ref} → RowFits w r → length (rowWords refTag placeIn r) ≡ 256
+  pub length-row : {r : Row Ref} → RowFits w r → length (rowWords refTag placeIn r) ≡ 256
   unfolding rowWords
   length-row {r} f =
       let c : length (room 32 (gather (conditionWords refTag placeIn) (r .conditions))) ≡ 32 =
@@ -170,14 +170,14 @@ condition-word r done cs c at j e h few =
     rw p (within (headWords refTag placeIn r) (gather f done) (f c) (gather f cs) _ _ _ _ at j q (rw (length-condition c) few))
 
 -- A row stands in a table: each of its words is where it is read
-unfoldable RowAt : List ℕ → ℕ → Row Ref → Type 0
+unfoldable pub RowAt : List ℕ → ℕ → Row Ref → Type 0
 RowAt table row r = (at j : ℕ) → j < 256 → at ≡ 64 + 1024 * row + 4 * j → wordAt table at ≡ getD (rowWords refTag placeIn r) j 0
 
 if-and : (b x : Bool) → if? b x false ≡ (b && x)
 if-and true x = refl
 if-and false x = refl
 
-all-of : (most n : ℕ) → n ≤ most → atMost most n ≡ n
+pub all-of : (most n : ℕ) → n ≤ most → atMost most n ≡ n
 unfolding atMost
 all-of most n h = simp (le-ltb most n h)
 
@@ -219,7 +219,7 @@ module _ {w : Pool} {cs : List Constant} {vs : List ℕ} (values : ValuesAs w cs
       ap₂ (λ (b x : Bool). if? b x false) (condition-holds row r done ds c here few e f) rest
       ∙ if-and (sameTruth (c .truth) (truthIn (valueOf cs (term (c .term))))) (meets cs ds)
 
-  row-holds : (row : ℕ) {r : Row Ref} → RowAt table row r → RowFits w r → rowHolds table vs row ≡ meets cs (r .conditions)
+  pub row-holds : (row : ℕ) {r : Row Ref} → RowAt table row r → RowFits w r → rowHolds table vs row ≡ meets cs (r .conditions)
   unfolding rowHolds RowAt
   row-holds row {r} here f =
       let n : wordAt table (64 + 1024 * row + 28) ≡ length (r .conditions) =
@@ -268,15 +268,15 @@ module _ {w : Pool} {rows : List (Row Ref)} (s : Sound w rows) (extra : List ℕ
       (wordAt-words [] (gather (rowBytes refTag placeIn) rows ++ (zeros-behind w rows ++ extra)) j (heading-words (s .fewRows) (s .fewTerms))
       (rw length-heading h))
 
-  row-count : wordAt (tableBytes w rows ++ extra) 0 ≡ length rows
+  pub row-count : wordAt (tableBytes w rows ++ extra) 0 ≡ length rows
   unfolding heading room
   row-count = heading-word 0 0 refl (omega arith)
 
-  term-count : wordAt (tableBytes w rows ++ extra) 4 ≡ length w
+  pub term-count : wordAt (tableBytes w rows ++ extra) 4 ≡ length w
   unfolding heading room
   term-count = heading-word 4 1 refl (omega arith)
 
-  row-at : (done rs : List (Row Ref)) (r : Row Ref) → rows ≡ done ++ r ∷ rs → RowAt (tableBytes w rows ++ extra) (length done) r
+  pub row-at : (done rs : List (Row Ref)) (r : Row Ref) → rows ≡ done ++ r ∷ rs → RowAt (tableBytes w rows ++ extra) (length done) r
   unfolding RowAt gather rowBytes
   row-at done rs r e at j h g =
       let (before, here) = each-append done (r ∷ rs) (subst (λ (l : List (Row Ref)). Each (RowFits w) l) e (s .rows)) in

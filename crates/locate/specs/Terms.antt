@@ -178,13 +178,13 @@ operand-as {before} {cs} {vs} a (fitsTerm {r} f) =
     }
 
 -- the two words of a value, by name
-tagOf : Value Ref → ℕ
+unfoldable pub tagOf : Value Ref → ℕ
 tagOf v = getD (valueWords refTag placeIn v) 0 0
 
-wordOf : Value Ref → ℕ
+unfoldable pub wordOf : Value Ref → ℕ
 wordOf v = getD (valueWords refTag placeIn v) 1 0
 
-two-words : (v : Value Ref) (l : List ℕ) → valueWords refTag placeIn v ++ l ≡ tagOf v ∷ wordOf v ∷ l
+pub two-words : (v : Value Ref) (l : List ℕ) → valueWords refTag placeIn v ++ l ≡ tagOf v ∷ wordOf v ∷ l
 unfolding tagOf wordOf valueWords constantWords
 two-words (const (number n)) l = refl
 two-words (const (boolean b)) l = refl
