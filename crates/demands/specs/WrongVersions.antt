@@ -155,7 +155,7 @@ sound-A = exploring-sound 1024 16 (accepted-well-formed textA programA (computed
 sound-twice : Sound termsA (rowA ∷ rowA ∷ [])
 sound-twice =
     let r : RowFits termsA rowA = each-at (sound-A .rows) here in
-    record { fewTerms = sound-A .fewTerms; terms = sound-A .terms; fewRows = omega arith; rows = more r (more r none) }
+    record { fewTerms = sound-A .fewTerms; terms = sound-A .terms; someRow = omega arith; fewRows = omega arith; rows = more r (more r none) }
 
 sound-made-up : (o : Outcome Ref) (n : ℕ) → OutcomeFits [] o → n ≤ 1024 → Sound [] (row8 o n ∷ [])
 unfolding row8
@@ -164,6 +164,7 @@ sound-made-up o n f h =
     record {
       fewTerms = sound-8 .fewTerms;
       terms = sound-8 .terms;
+      someRow = omega arith;
       fewRows = omega arith;
       rows =
           more
