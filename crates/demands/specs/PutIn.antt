@@ -1,27 +1,27 @@
 -- A sound row's words, with inputs put in, are the words of the row with the inputs put in: what is read from the bytes is what demand 3
 -- says of the definitions. Assumes nothing.
-use Prim.Native.Nat.{ℕ, zero, suc, _+_, _*_, _-_, _/_, _%_, _≤_, _<_}
+use Prim.Native.Nat.{ℕ, zero, suc, _+_, _*_, _-_, _/_, _%_, _≤_}
 use native.Mathlib.Omega.{arith}
-use mathlib.Core.Path.{_≡_, refl, sym, _∙_, ap, ap₂, subst}
+use mathlib.Core.Path.{_≡_, refl, sym, _∙_, ap, ap₂}
 use mathlib.Core.Bool.{Bool, true, false}
 use mathlib.Core.List.{List, [], _∷_, _++_, map, append-assoc}
 use mathlib.Core.Option.{Option, none, some}
-use lib.ListN.{length, getD, take, drop, replicate, length-append, length-map, length-replicate}
+use lib.ListN.{length, take, drop, replicate, length-append, length-map}
 use lib.Seq.{take-at, drop-at}
 use lib.Dec.{eqb}
 use Rattle.gil.specs.Names.{gather}
-use Rattle.gil.specs.Values.{Constant, number, boolean, location, Value, const, term, Node, input}
-use Rattle.gil.specs.Machine.{Cell, End, returned, failed, vanished, error}
-use Rattle.gil.specs.Rows.{Condition, Reason, steps, branches, Outcome, ended, cut, Row}
+use Rattle.gil.specs.Values.{Constant, number, boolean, location, Value, const, term}
+use Rattle.gil.specs.Machine.{Cell, returned, failed, vanished, error}
+use Rattle.gil.specs.Rows.{steps, branches, Outcome, ended, cut, Row}
 use Rattle.gil.specs.Pool.{Ref, numberTerm, booleanTerm, placeIn, Pool, valueOf}
 use Rattle.gil.specs.Accounts as Accounts
-use Rattle.gil.specs.Layout.{wordBytes, room, bit, constantWords, valueWords, variableWords, cellWords, conditionWords, endWords, outcomeWords, headWords, rowWords, reasonCode, refTag, noNumber}
+use Rattle.gil.specs.Layout.{room, bit, constantWords, valueWords, variableWords, cellWords, conditionWords, endWords, outcomeWords, headWords, rowWords, reasonCode, refTag, noNumber}
 use Rattle.code.specs.WellFormed as WellFormed
 use Rattle.code.specs.WellFormed.{Each}
 use Rattle.values.specs.Packed.{if?, truthWord}
 use Rattle.values.specs.Laws.{ConstAs, aNumber, aTruth, aLocation}
-use Rattle.locate.specs.Sound.{RefFits, ValueFits, fitsNumber, fitsTruth, fitsLocation, fitsTerm, VariableFits, unbound, bound, CellFits, EndFits, fitsReturned, fitsFailed, fitsVanished, fitsError, OutcomeFits, fitsEnded, fitsCut, RowFits}
-use Rattle.locate.specs.Terms.{TermAs, ValuesAs, tagOf, wordOf, two-words}
+use Rattle.locate.specs.Sound.{ValueFits, fitsNumber, fitsTruth, fitsLocation, fitsTerm, VariableFits, unbound, bound, CellFits, fitsReturned, fitsFailed, fitsVanished, fitsError, OutcomeFits, fitsEnded, fitsCut, RowFits}
+use Rattle.locate.specs.Terms.{ValuesAs, tagOf, wordOf, two-words}
 use Rattle.locate.specs.Laws.{length-room, length-parts, length-variable, length-cell, length-condition, length-head}
 use Rattle.demands.specs.FromBytes.{putTag, putWord, putVariables, putCells, putOutcome, putHead, putRow}
 
@@ -132,18 +132,20 @@ module _ {w : Pool} {cs : List Constant} {vs : List ℕ} (values : ValuesAs w cs
       ap (λ (l : List ℕ). putCells vs (c .location ∷ c .property ∷ l)) (two-words (c .value) rest)
       ∙ ap (λ (l : List ℕ). c .location ∷ c .property ∷ (l ++ putCells vs rest)) (sym (put-value (f .value)))
 
+  -- an outcome that is no cut
+  no-cut : (o tag x : ℕ) → eqb o 5 ≡ false → putOutcome vs o tag x ≡ putTag vs tag x ∷ putWord vs tag x ∷ []
+  unfolding putOutcome
+  no-cut o tag x e = simp (e, putOutcome)
+
   -- the outcome's three words and what stands behind them in the heading; first where it is a value
   valued-put :
       (o : ℕ) → eqb o 5 ≡ false → {u : Value Ref} → ValueFits w u → (s p c i n v m : ℕ)
       → putHead vs (room 16 (o ∷ (valueWords refTag placeIn u ++ (s ∷ p ∷ c ∷ i ∷ n ∷ v ∷ m ∷ []))))
       ≡ room 16 (o ∷ (constantWords (valueOf cs u) ++ (s ∷ p ∷ c ∷ i ∷ 0 ∷ v ∷ m ∷ [])))
-  unfolding putHead putOutcome room
+  unfolding putHead room
   valued-put o e {u} f s p c i n v m =
       ap (λ (l : List ℕ). putHead vs (room 16 (o ∷ l))) (two-words u (s ∷ p ∷ c ∷ i ∷ n ∷ v ∷ m ∷ []))
-      ∙ ap
-      (λ (b : Bool).
-      o ∷ (if? b (0 ∷ 1 ∷ []) (putTag vs (tagOf u) (wordOf u) ∷ putWord vs (tagOf u) (wordOf u) ∷ []) ++ (s ∷ p ∷ c ∷ i ∷ 0 ∷ v ∷ m ∷ replicate 6 0)))
-      e
+      ∙ ap (λ (l : List ℕ). o ∷ (l ++ (s ∷ p ∷ c ∷ i ∷ 0 ∷ v ∷ m ∷ replicate 6 0))) (no-cut o (tagOf u) (wordOf u) e)
       ∙ ap (λ (l : List ℕ). room 16 (o ∷ (l ++ (s ∷ p ∷ c ∷ i ∷ 0 ∷ v ∷ m ∷ [])))) (sym (put-value f))
 
   head-put :

@@ -1,6 +1,6 @@
 -- "Numbered refusals, in the order tested": the reasons for which a call refuses, each a constructor with its number, in document 01's
 -- words; and what it is to refuse by the first of them that holds. Definitions only. Assumes nothing.
-use Prim.Native.Nat.{ℕ, suc, _≤_, _<_}
+use Prim.Native.Nat.{ℕ, _≤_, _<_}
 use mathlib.Core.Path.{_≡_}
 use mathlib.Core.Logic.{_↔_, _⊎_}
 use mathlib.Core.Bool.{Bool, true, _||_}

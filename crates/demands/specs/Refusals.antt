@@ -2,19 +2,18 @@
 use Prim.Native.Nat.{ℕ, zero, suc, _+_, _*_, _≤_, _<_}
 use native.Mathlib.Omega.{arith}
 use mathlib.Core.Path.{_≡_, refl, sym, _∙_, ap, subst}
-use mathlib.Core.Logic.{_↔_, _⊎_, inl, inr}
-use mathlib.Core.Bool.{Bool, true, false, _||_}
+use mathlib.Core.Logic.{_⊎_, inl, inr}
+use mathlib.Core.Bool.{Bool, true, false}
 use mathlib.Core.List.{List, [], _∷_, _++_}
 use lib.ListN.{length, drop, replicate}
 use lib.Dec.{ltb, leb}
 use borrow.Author.Tests.{ltb-true, ltb-false, leb-true, leb-false, lt-ltb, le-ltb, le-leb, lt-leb}
 use Rattle.gil.specs.Tree.{Proc, Name}
 use Rattle.gil.specs.Reading.{Read, faulty, read, procedures}
-use Rattle.gil.specs.Names.{Program, Checked, refused, accepted, overLimits, wrongNames, wrongJump, wrongEnd, refusedIf, numberProgram, tested, checkText}
-use Rattle.gil.specs.Machine.{move}
+use Rattle.gil.specs.Names.{Program, Checked, refused, accepted, overLimits, wrongNames, wrongJump, wrongEnd, refusedIf, tested, checkText}
 use Rattle.gil.specs.Rows.{Path, Row, cutFor, steps}
 use Rattle.gil.specs.Explore as Explore
-use Rattle.gil.specs.Explore.{Turn, finishes, goes, forks, Explored, explored, Exploring, stopped, exploring, finish, waitingOn, onTurn, overfull, turnIn, afterMove, advance, afterCommands}
+use Rattle.gil.specs.Explore.{Turn, finishes, goes, forks, Explored, explored, Exploring, stopped, exploring, finish, waitingOn, onTurn, overfull, afterMove, advance, afterCommands}
 use Rattle.gil.specs.Pool.{Ref, Pool, pooled, table}
 use Rattle.gil.specs.Accounts.{explorationAfter}
 use Rattle.gil.specs.Demand3.{ends-at-the-table}
@@ -70,83 +69,73 @@ pub data TextOutcome (text : List ℕ) : Checked → Type 0 where
   isWrong : {n : ℕ} → First (TextReason text) n → TextOutcome text (refused n)
   isRight : {p : Program} → ((n : ℕ) → TextReason text n → ⊥) → TextOutcome text (accepted p)
 
+-- a test that what was read passes
+passed :
+    {r : Read (List (Proc Name))} {ps qs : List (Proc Name)} {m n : ℕ} (test : List (Proc Name) → Bool) → r ≡ read ps m → test ps ≡ false
+    → r ≡ read qs n → test qs ≡ true → ⊥
+passed {ps = ps} {qs = qs} test e f d t = let same : ps ≡ qs = cc in no-false t (ap test (sym same) ∙ f)
+
+-- a reason that the program read from a text does not give
+module _ {text : List ℕ} {ps : List (Proc Name)} {next : ℕ} (is : procedures text ≡ read ps next) where
+  not-4 : TextReason text 4 → ⊥
+  not-4 (notOfTheForm e) = let z : _≡_ {A = ℕ} 0 1 = cc in omega arith
+
+  not-5 : overLimits ps ≡ false → TextReason text 5 → ⊥
+  not-5 f (overALimit e t) = passed overLimits is f e t
+
+  not-6 : wrongNames ps ≡ false → TextReason text 6 → ⊥
+  not-6 f (wrongName e t) = passed wrongNames is f e t
+
+  not-7 : wrongJump ps ≡ false → TextReason text 7 → ⊥
+  not-7 f (jumpsPast e t) = passed wrongJump is f e t
+
+  not-8 : wrongEnd ps ≡ false → TextReason text 8 → ⊥
+  not-8 f (endsOpen e t) = passed wrongEnd is f e t
+
 module _ (text : List ℕ) where
-  -- a test that the program read from the text does not pass
-  Passes : (List (Proc Name) → Bool) → Type 0
-  Passes test = (ps : List (Proc Name)) (next : ℕ) → procedures text ≡ read ps next → test ps ≡ true → ⊥
+  -- no reason below number k
+  Below : ℕ → Type 0
+  Below k = (m : ℕ) → m < k → TextReason text m → ⊥
 
-  passes :
-      (test : List (Proc Name) → Bool) (ps : List (Proc Name)) (next : ℕ) → procedures text ≡ read ps next → test ps ≡ false → Passes test
-  unfolding Passes
-  passes test ps next e t qs next′ f u = let same : ps ≡ qs = cc in no-false u (ap test (sym same) ∙ t)
+  below-3 : Below 3
+  unfolding Below
+  below-3 m h r = let (f, g) = text-range r in omega arith
 
-  -- no reason before number k, where the tests before it are passed
-  text-below :
-      (k : ℕ)
-      → (3 < k → length text ≤ 16384)
-      → (4 < k → procedures text ≡ faulty → ⊥)
-      → (5 < k → Passes overLimits)
-      → (6 < k → Passes wrongNames)
-      → (7 < k → Passes wrongJump)
-      → (8 < k → Passes wrongEnd)
-      → (m : ℕ)
-      → m < k
-      → TextReason text m
-      → ⊥
-  unfolding Passes
-  text-below k a b c d f g m h (tooLong l) = let s : _ ≤ _ = a h in omega arith
-  text-below k a b c d f g m h (notOfTheForm e) = b h e
-  text-below k a b c d f g m h (overALimit {ps} {next} e t) = c h ps next e t
-  text-below k a b c d f g m h (wrongName {ps} {next} e t) = d h ps next e t
-  text-below k a b c d f g m h (jumpsPast {ps} {next} e t) = f h ps next e t
-  text-below k a b c d f g m h (endsOpen {ps} {next} e t) = g h ps next e t
+  next-below : (k : ℕ) → Below k → (TextReason text k → ⊥) → Below (suc k)
+  unfolding Below
+  next-below k f g m h r = at (ltb m k) refl
+    where
+      at : (b : Bool) → ltb m k ≡ b → ⊥
+      at true e = f m (ltb-true m k e) r
+      at false e = let same : m ≡ k = omega (arith, ltb-false m k e) in g (subst (TextReason text) same r)
 
+  -- each test over the whole text before the next
   refused-if :
-      (b : Bool) (n : ℕ) (t : Checked) → (b ≡ true → TextOutcome text (refused n)) → (b ≡ false → TextOutcome text t)
-      → TextOutcome text (refusedIf b n t)
-  unfolding refusedIf
-  refused-if true n t f g = f refl
-  refused-if false n t f g = g refl
+      (b : Bool) (n : ℕ) (t : Checked) → Below n → (b ≡ true → TextReason text n) → (b ≡ false → TextReason text n → ⊥)
+      → (Below (suc n) → TextOutcome text t) → TextOutcome text (refusedIf b n t)
+  unfolding refusedIf Below
+  refused-if true n t below f g h = isWrong (f refl, below)
+  refused-if false n t below f g h = h (next-below n below (g refl))
 
-  not-yet : {A : Type 0} (j k : ℕ) → k ≤ j → j < k → A
-  not-yet j k h l = absurd (omega arith)
+  tested-outcome : Below 4 → (r : Read (List (Proc Name))) → procedures text ≡ r → TextOutcome text (tested r)
+  unfolding tested Below
+  tested-outcome below faulty e = isWrong (notOfTheForm e, below)
+  tested-outcome below (read ps next) e =
+      refused-if (overLimits ps) 5 _ (next-below 4 below (not-4 e)) (overALimit e) (not-5 e) λ below-6.
+      refused-if (wrongNames ps) 6 _ below-6 (wrongName e) (not-6 e) λ below-7.
+      refused-if (wrongJump ps) 7 _ below-7 (jumpsPast e) (not-7 e) λ below-8.
+      refused-if (wrongEnd ps) 8 _ below-8 (endsOpen e) (not-8 e) λ below-9.
+      isRight λ n r. let (f, g) = text-range r in below-9 n (omega arith) r
 
-  not-faulty : {ps : List (Proc Name)} {next : ℕ} → procedures text ≡ read ps next → procedures text ≡ faulty → ⊥
-  not-faulty e f = let z : _≡_ {A = ℕ} 0 1 = cc in omega arith
-
-  tested-outcome : length text ≤ 16384 → (r : Read (List (Proc Name))) → procedures text ≡ r → TextOutcome text (tested r)
-  unfolding tested
-  tested-outcome short faulty e =
-      isWrong (
-        notOfTheForm e,
-        text-below 4 (λ _. short) (not-yet 4 4 (omega arith)) (not-yet 5 4 (omega arith)) (not-yet 6 4 (omega arith)) (not-yet 7 4 (omega arith)) (not-yet 8 4 (omega arith)),
-      )
-  tested-outcome short (read ps next) e =
-      refused-if (overLimits ps) 5 _
-      (λ t5. isWrong (overALimit e t5, text-below 5 (λ _. short) (λ _. not-faulty e) (not-yet 5 5 (omega arith)) (not-yet 6 5 (omega arith)) (not-yet 7 5 (omega arith)) (not-yet 8 5 (omega arith))))
-      (λ t5.
-      let p5 : Passes overLimits = passes overLimits ps next e t5 in
-      refused-if (wrongNames ps) 6 _
-      (λ t6. isWrong (wrongName e t6, text-below 6 (λ _. short) (λ _. not-faulty e) (λ _. p5) (not-yet 6 6 (omega arith)) (not-yet 7 6 (omega arith)) (not-yet 8 6 (omega arith))))
-      (λ t6.
-      let p6 : Passes wrongNames = passes wrongNames ps next e t6 in
-      refused-if (wrongJump ps) 7 _
-      (λ t7. isWrong (jumpsPast e t7, text-below 7 (λ _. short) (λ _. not-faulty e) (λ _. p5) (λ _. p6) (not-yet 7 7 (omega arith)) (not-yet 8 7 (omega arith))))
-      (λ t7.
-      let p7 : Passes wrongJump = passes wrongJump ps next e t7 in
-      refused-if (wrongEnd ps) 8 _
-      (λ t8. isWrong (endsOpen e t8, text-below 8 (λ _. short) (λ _. not-faulty e) (λ _. p5) (λ _. p6) (λ _. p7) (not-yet 8 8 (omega arith))))
-      (λ t8.
-      isRight
-      (λ n r.
-      text-below (suc n) (λ _. short) (λ _. not-faulty e) (λ _. p5) (λ _. p6) (λ _. p7) (λ _. passes wrongEnd ps next e t8) n (omega arith) r)))))
+  not-3 : length text ≤ 16384 → TextReason text 3 → ⊥
+  not-3 short (tooLong h) = omega arith
 
   pub text-outcome : TextOutcome text (checkText text)
-  unfolding checkText
+  unfolding checkText Below
   text-outcome =
       chosen (TextOutcome text) (ltb 16384 (length text))
-      (λ e. isWrong (tooLong (ltb-true 16384 (length text) e), text-below 3 (not-yet 3 3 (omega arith)) (not-yet 4 3 (omega arith)) (not-yet 5 3 (omega arith)) (not-yet 6 3 (omega arith)) (not-yet 7 3 (omega arith)) (not-yet 8 3 (omega arith))))
-      (λ e. tested-outcome (ltb-false 16384 (length text) e) (procedures text) refl)
+      (λ e. isWrong (tooLong (ltb-true 16384 (length text) e), below-3))
+      (λ e. tested-outcome (next-below 3 below-3 (not-3 (ltb-false 16384 (length text) e))) (procedures text) refl)
 
 -- The exploration: 9 and 10
 module _ (p : Program) (budget most : ℕ) where

@@ -21,19 +21,19 @@ use Rattle.gil.specs.Theory.Tests.{and-left, and-right}
 use Rattle.gil.specs.Layout.{tableLength, poolLength, answerLength, inputsLength, wordBytes, rowBytes, room, constantWords, valueWords, reasonCode, endWords, outcomeWords, headWords, rowWords, refTag, tableBytes, poolBytes, answerBytes, inputWords}
 use Rattle.gil.specs.Calls as Calls
 use Rattle.gil.specs.Calls.{PlainAnswer, TableAnswer}
-use Rattle.code.specs.WellFormed.{Each, none, more}
+use Rattle.code.specs.WellFormed.{none, more}
 use Rattle.code.specs.Accepted.{accepted-well-formed}
 use Rattle.words.specs.Words.{wordAt}
 use Rattle.locate.specs.Inputs.{Bytes}
 use Rattle.locate.specs.Sound.{Sound, RowFits, OutcomeFits, fitsEnded, fitsVanished, fitsCut}
 use Rattle.locate.specs.Exploring.{exploring-sound}
 use Rattle.locate.specs.Laws.{RowAt, row-count}
-use Rattle.demands.specs.Reasons.{CheckReason, PlainReason, ExploreReason, PlaceReason, First}
+use Rattle.demands.specs.Reasons.{CheckReason, PlainReason, ExploreReason, PlaceReason}
 use Rattle.demands.specs.Refusals.{check-refuses, plain-refuses, plain-runs, explore-refuses, place-refuses}
 use Rattle.demands.specs.Determined.{ran-as, explored-as}
-use Rattle.demands.specs.FromBytes.{rowsIn, stepsIn, meetsRow, putInBytes, OneRow}
+use Rattle.demands.specs.FromBytes.{rowsIn, stepsIn, putInBytes, OneRow}
 use Rattle.demands.specs.Rows.{each-at, stands-at, rows-read, meets-read, steps-read, put-read}
-use Rattle.demands.specs.Examples.{text8, program8, row8, textA, programA, termsA, rowA, rowA′, inputs38, computed}
+use Rattle.demands.specs.Examples.{text8, program8, row8, textA, programA, termsA, rowA, rowA′, inputs38, textMany, computed}
 use Rattle.demands.specs.Demands.{FourCalls, Demand1, Demand2, Demand3}
 
 -- lent memory, and inputs, of just the length needed
@@ -103,6 +103,13 @@ module _
     unfolding Calls.checkCall Calls.textAnswer
     check-none = check-refuses text .otherwise .0 (ap Calls.textAnswer reads)
 
+many-refused : Calls.exploreCall textMany 1024 16 lentTable lentPool .returns ≡ 10
+unfolding Calls.exploreCall Calls.wrongBudgets Calls.firstOf Calls.exploreOn Calls.tablesAfter
+many-refused =
+    ap (λ (b : Bool). Calls.exploreOn Calls.succeeds 1024 16 lentTable lentPool (Calls.firstOf false b (checkText textMany)) .returns) tables-long
+    ∙ ap (λ (c : Checked). Calls.exploreOn Calls.succeeds 1024 16 lentTable lentPool c .returns) (computed .readsMany)
+    ∙ ap (λ (x : Explored Pool Ref). Calls.tablesAfter Calls.succeeds lentTable lentPool x .returns) (computed .tableMany)
+
 module _ (c : FourCalls) where
   -- REFUSES EVERYTHING (demand 1), in any one of the four calls
   pub no-check-refuses-all : ((text : List ℕ) → 1 ≤ c .check text) → Demand1 c → ⊥
@@ -131,19 +138,18 @@ module _ (c : FourCalls) where
       d .place text8 noInputs 1024 16 lentTable lentPool .otherwise .1 (place-none text8 (computed .reads8) (computed .table8)) in
       omega (arith, always text8 noInputs 1024 16 lentTable lentPool)
 
-  -- A MADE-UP COUNT OF TERMS (demand 1, by refusal 10): too many, where one text without terms is refused; and too few or too many, anywhere
-  pub no-made-up-terms-8 : c .explore text8 1024 16 lentTable lentPool .returns ≡ 10 → Demand1 c → ⊥
-  no-made-up-terms-8 e d =
+  -- A MADE-UP COUNT OF TERMS (demand 1, by refusal 10): too many, where a text that makes no term is refused; too few, where one that would
+  -- make the 2,049th is not
+  pub no-terms-too-many : c .explore text8 1024 16 lentTable lentPool .returns ≡ 10 → Demand1 c → ⊥
+  no-terms-too-many e d =
       explore-none text8 (computed .reads8) (computed .table8) 10
       (d .explore text8 1024 16 lentTable lentPool .exactly 10 (omega arith) (omega arith) .0 e .0)
 
-  pub no-made-up-terms :
-      (text : List ℕ) (budget most : ℕ) (t w : List ℕ)
-      → First (ExploreReason text budget most t w) 10
-      → (c .explore text budget most t w .returns ≡ 10 → ⊥)
-      → Demand1 c
-      → ⊥
-  no-made-up-terms text budget most t w f e d = e (d .explore text budget most t w .exactly 10 (omega arith) (omega arith) .1 f)
+  pub no-terms-too-few : (c .explore textMany 1024 16 lentTable lentPool .returns ≡ 10 → ⊥) → Demand1 c → ⊥
+  no-terms-too-few e d =
+      e
+      (d .explore textMany 1024 16 lentTable lentPool .exactly 10 (omega arith) (omega arith) .1
+      (explore-refuses textMany 1024 16 lentTable lentPool .exactly 10 (omega arith) (omega arith) .0 many-refused))
 
 -- the tables of the two texts are sound, and so are those that wrong versions make of their rows
 sound-8 : Sound [] (row8 (ended vanished) 1 ∷ [])
