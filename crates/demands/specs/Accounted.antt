@@ -1,12 +1,11 @@
 -- Demand 3 over the bytes that the calls leave: an exploration that was not refused has a sound table, and place and the plain run are not
 -- refused either. Assumes nothing.
 use Prim.Native.Nat.{ℕ, _+_, _≤_}
-use mathlib.Core.Path.{_≡_, refl, sym, _∙_, ap, ap₂, subst}
-use mathlib.Core.Bool.{Bool, true, false, not, _&&_, _||_}
+use mathlib.Core.Path.{_≡_, sym, _∙_, ap, ap₂, subst}
+use mathlib.Core.Bool.{Bool, false, not, _||_}
 use mathlib.Core.List.{List, _++_}
 use lib.ListN.{length, drop}
-use lib.Dec.{ltb, leb}
-use borrow.Author.Tests.{ltb-false, leb-true, le-ltb, eq-eqb}
+use borrow.Author.Tests.{le-ltb, eq-eqb}
 use Rattle.gil.specs.Names.{Program, accepted, checkText}
 use Rattle.gil.specs.Rows.{Row}
 use Rattle.gil.specs.Explore.{explored}
@@ -16,28 +15,15 @@ use Rattle.gil.specs.Theory.Tests.{no-false}
 use Rattle.gil.specs.Layout.{tableLength, poolLength, answerLength, inputsLength, tableBytes, poolBytes, inputWords}
 use Rattle.gil.specs.Calls as Calls
 use Rattle.gil.specs.Calls.{TableAnswer}
-use Rattle.code.specs.Accepted.{accepted-well-formed}
 use Rattle.locate.specs.Sound.{Sound}
 use Rattle.locate.specs.Inputs.{Bytes}
-use Rattle.locate.specs.Exploring.{exploring-sound}
 use Rattle.demands.specs.Reasons.{ofBudgets, ofLists, ofText, ofExploring, PlainReason, ExploreReason, PlaceReason, ExploresAs}
-use Rattle.demands.specs.Refusals.{plain-runs, explore-refuses, explore-explores, place-explores}
+use Rattle.demands.specs.Refusals.{sound-table, plain-runs, explore-refuses, explore-explores, place-explores}
 use Rattle.demands.specs.Determined.{ran-as, explored-as, same-tables}
 use Rattle.demands.specs.FromBytes.{stepsIn, OneRow}
 use Rattle.demands.specs.Rows.{Found, accounted-found}
 
--- What is known of arguments that are not refused
-budgets-within : (budget most : ℕ) → (Calls.wrongBudgets budget most ≡ true → ⊥) → (budget ≤ 1024) × (most ≤ 16)
-unfolding Calls.wrongBudgets
-budgets-within budget most f = at (leb 1 budget) (leb budget 1024) refl (ltb 16 most) refl f
-  where
-    at :
-        (a b : Bool) → leb budget 1024 ≡ b → (c : Bool) → ltb 16 most ≡ c → (not (a && b) || c ≡ true → ⊥) → (budget ≤ 1024) × (most ≤ 16)
-    at true true d false e g = (leb-true budget 1024 d, ltb-false 16 most e)
-    at true true d true e g = absurd (g refl)
-    at true false d c e g = absurd (g refl)
-    at false b d c e g = absurd (g refl)
-
+-- Arguments that are not refused
 inputs-right : (inputs : List ℕ) → length inputs ≡ inputsLength → Calls.wrongInputs inputs ≡ false
 unfolding Calls.wrongInputs
 inputs-right inputs long = ap not (eq-eqb (length inputs) 64 long)
@@ -85,8 +71,7 @@ module _ (text inputs : List ℕ) (budget most : ℕ) (t w : List ℕ) where
           → table p budget most ≡ explored terms rows
           → Found (tableBytes terms rows ++ extra) (poolBytes terms ++ rest) inputs p (placed (inputWords inputs) terms rows)
       found {p} {terms} {rows} extra rest reads explores =
-          let (small, few) = budgets-within budget most (λ e. none 1 (ofBudgets e)) in
-          let s : Sound terms rows = exploring-sound budget most (accepted-well-formed text p reads) small few explores in
+          let s : Sound terms rows = sound-table text budget most (λ e. none 1 (ofBudgets e)) reads explores in
           let (a, e) = of-the-table p budget most (inputWords inputs) terms rows explores in
           accounted-found s extra rest inputs long bytes p (placed (inputWords inputs) terms rows) a e
 

@@ -1,8 +1,9 @@
--- THE THREE DEMANDS on the four calls. Read this file first: each demand is a record of what is asked of any version of the calls, and
--- then a theorem, that the calls of document 01's definitions (crates/gil/specs/Calls.antt) meet it. The exported functions are proved to be
--- those calls: they return what Calls says and leave every byte of lent memory as Calls says. The words used here are Reasons' (why a call
--- refuses, and by which number) and FromBytes' (what a C caller reads from the bytes); the proofs are in Refusals (1 and 2), PutIn, Rows and Accounted (3), and Determined. Nothing is
--- assumed: a list of numbers stands for bytes, a number for a budget.
+-- THE THREE DEMANDS on the four calls. Read this file first. Each demand is a record of what is asked of any version of the calls, and then a
+-- theorem: the calls of document 01's definitions (crates/gil/specs/Calls.antt) meet it. What an exported function promises is that it is the
+-- call of its name there: it returns what that says, and leaves every byte of lent memory as that says. So what is proved here holds of it.
+-- The words used are Reasons' (why a call refuses, and by which number) and FromBytes' (what a C caller reads from the bytes); all others
+-- are the definitions'. Proofs: Refusals (1 and 2), PutIn, Rows and Accounted (3), Determined. Wrong versions that the demands refuse:
+-- WrongVersions. Nothing is assumed: a list of numbers stands for bytes, a number for a budget.
 use Prim.Native.Nat.{ℕ, _≤_}
 use mathlib.Core.Path.{_≡_, sym, _∙_}
 use mathlib.Core.List.{List, _++_, map}
@@ -16,9 +17,9 @@ use Rattle.gil.specs.Demand3.{after-every-command}
 use Rattle.gil.specs.Layout.{answerLength, inputsLength}
 use Rattle.gil.specs.Calls as Calls
 use Rattle.gil.specs.Calls.{PlainAnswer, TableAnswer}
-use Rattle.demands.specs.Reasons.{CheckReason, PlainReason, ExploreReason, PlaceReason, Refuses, Leaves, RunsAs, ExploresAs}
-use Rattle.demands.specs.Refusals.{check-refuses, plain-refuses, plain-untouched, plain-runs, explore-refuses, explore-leaves, explore-explores, place-refuses, place-leaves, place-explores}
 use Rattle.locate.specs.Inputs.{Bytes}
+use Rattle.demands.specs.Reasons.{CheckReason, PlainReason, ExploreReason, PlaceReason, Zero, ARow, Refuses, Leaves, RunsAs, ExploresAs}
+use Rattle.demands.specs.Refusals.{check-refuses, plain-refuses, plain-untouched, plain-runs, explore-refuses, explore-leaves, explore-explores, place-refuses, place-leaves, place-explores}
 use Rattle.demands.specs.FromBytes.{OneRow}
 use Rattle.demands.specs.Accounted.{one-row, same-exploring}
 use Rattle.demands.specs.Determined.{same-check, same-plain, same-exploration}
@@ -40,16 +41,16 @@ theCalls = record { check = Calls.checkCall; plain = Calls.plainCall; explore = 
 -- "The check call can give 3 to 8 only, the plain run 1 to 8." "Refusals 1 to 8 leave lent memory untouched; 9 and 10 leave table and pool
 -- zero."
 pub record Demand1 (c : FourCalls) : Type 0 where
-  pub check : (text : List ℕ) → Refuses (CheckReason text) 3 8 (λ r. r ≡ 0) (c .check text)
+  pub check : (text : List ℕ) → Refuses (CheckReason text) 3 8 Zero (c .check text)
   pub plain :
       (text inputs : List ℕ) (budget : ℕ) (lentAnswer : List ℕ)
-      → Refuses (PlainReason text inputs budget lentAnswer) 1 8 (λ r. r ≡ 0) (c .plain text inputs budget lentAnswer .returns)
+      → Refuses (PlainReason text inputs budget lentAnswer) 1 8 Zero (c .plain text inputs budget lentAnswer .returns)
   pub explore :
       (text : List ℕ) (budget most : ℕ) (lentTable lentPool : List ℕ)
-      → Refuses (ExploreReason text budget most lentTable lentPool) 1 10 (λ r. r ≡ 0) (c .explore text budget most lentTable lentPool .returns)
+      → Refuses (ExploreReason text budget most lentTable lentPool) 1 10 Zero (c .explore text budget most lentTable lentPool .returns)
   pub place :
       (text inputs : List ℕ) (budget most : ℕ) (lentTable lentPool : List ℕ)
-      → Refuses (PlaceReason text inputs budget most lentTable lentPool) 1 10 (λ r. 256 ≤ r)
+      → Refuses (PlaceReason text inputs budget most lentTable lentPool) 1 10 ARow
       (c .place text inputs budget most lentTable lentPool .returns)
   -- lent memory after a refusal
   pub plainLeaves :

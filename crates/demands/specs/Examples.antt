@@ -1,5 +1,5 @@
--- The texts of document 01's examples 1 and 8: the programs that they are read as, and those programs' tables and runs, by computation.
--- What wrong versions are held against. Assumes nothing.
+-- The texts of document 01's examples 1 and 8, and one of our own: the programs that they are read as, and those programs' tables and runs,
+-- by computation. What wrong versions are held against. Assumes nothing.
 use Prim.Native.Nat.{ℕ}
 use Prim.Native.String.{String, _++_ as _+++_}
 use mathlib.Core.Path.{_≡_, refl}

@@ -3,7 +3,7 @@ use Prim.Native.Nat.{ℕ, zero, suc, _+_, _*_, _≤_, _<_}
 use native.Mathlib.Omega.{arith}
 use mathlib.Core.Path.{_≡_, refl, sym, _∙_, ap, subst}
 use mathlib.Core.Logic.{_⊎_, inl, inr}
-use mathlib.Core.Bool.{Bool, true, false}
+use mathlib.Core.Bool.{Bool, true, false, not, _&&_, _||_}
 use mathlib.Core.List.{List, [], _∷_, _++_}
 use lib.ListN.{length, drop, replicate}
 use lib.Dec.{ltb, leb}
@@ -14,15 +14,19 @@ use Rattle.gil.specs.Names.{Program, Checked, refused, accepted, overLimits, wr
 use Rattle.gil.specs.Rows.{Path, Row, cutFor, steps}
 use Rattle.gil.specs.Explore as Explore
 use Rattle.gil.specs.Explore.{Turn, finishes, goes, forks, Explored, explored, Exploring, stopped, exploring, finish, waitingOn, onTurn, overfull, afterMove, advance, afterCommands}
-use Rattle.gil.specs.Pool.{Ref, Pool, pooled, table}
+use Rattle.gil.specs.Pool.{Ref, Pool, pooled, table, placed}
 use Rattle.gil.specs.Accounts.{explorationAfter}
-use Rattle.gil.specs.Demand3.{ends-at-the-table}
+use Rattle.gil.specs.Demand3.{of-the-table, ends-at-the-table}
 use Rattle.gil.specs.Theory.Tests.{chosen, no-false}
 use Rattle.gil.specs.Plain.{plainRun}
 use Rattle.gil.specs.Layout.{tableLength, poolLength, answerLength, tableBytes, poolBytes, answerBytes, inputWords}
 use Rattle.gil.specs.Calls as Calls
 use Rattle.gil.specs.Calls.{firstOf, TableAnswer, PlainAnswer}
-use Rattle.demands.specs.Reasons.{TextReason, tooLong, notOfTheForm, overALimit, wrongName, jumpsPast, endsOpen, termsAfter, turnAfter, Overruns, rowOfCut, rowOfCommand, termOfCommand, Overrun, after, Never, Reason, ofBudgets, ofLists, ofText, ofExploring, PlainReason, ExploreReason, PlaceReason, First, Refuses, Leaves, RunsAs, ExploresAs}
+use Rattle.code.specs.Accepted.{accepted-well-formed}
+use Rattle.locate.specs.Sound.{Sound}
+use Rattle.locate.specs.Exploring.{exploring-sound}
+use Rattle.demands.specs.Rows.{stands-below}
+use Rattle.demands.specs.Reasons.{TextReason, tooLong, notOfTheForm, overALimit, wrongName, jumpsPast, endsOpen, termsAfter, turnAfter, Overruns, rowOfCut, rowOfCommand, termOfCommand, Overrun, after, Never, Reason, ofBudgets, ofLists, ofText, ofExploring, PlainReason, ExploreReason, PlaceReason, Zero, ARow, First, Refuses, Leaves, RunsAs, ExploresAs}
 
 -- The first reason is one only
 first-same : {R : ℕ → Type 0} {m n : ℕ} → First R m → First R n → m ≡ n
@@ -317,12 +321,12 @@ none : {b c : Bool} {text : List ℕ} → ((k : ℕ) → ((m : ℕ) → m < k �
 none f n = f (suc n) (λ m _. never) n (omega arith)
 
 -- check
-check-from : {text : List ℕ} {t : Checked} → TextOutcome text t → Outcome (TextReason text) (λ r. r ≡ 0) (Calls.textAnswer t)
+check-from : {text : List ℕ} {t : Checked} → TextOutcome text t → Outcome (TextReason text) Zero (Calls.textAnswer t)
 unfolding Calls.textAnswer
 check-from (isWrong f) = refusal f
 check-from (isRight f) = success f refl
 
-pub check-refuses : (text : List ℕ) → Refuses (TextReason text) 3 8 (λ r. r ≡ 0) (Calls.checkCall text)
+pub check-refuses : (text : List ℕ) → Refuses (TextReason text) 3 8 Zero (Calls.checkCall text)
 unfolding Calls.checkCall
 check-refuses text =
     refuses 3 8 (λ n. text-range) (omega arith) (omega arith) (λ e l h. omega arith) (check-from (text-outcome text))
@@ -342,7 +346,7 @@ module _ (text inputs : List ℕ) (budget : ℕ) (answer : List ℕ) {b c : Bool
   plain-on (accepted p) (goesOn e f) = run (none f) e
 
 module _ {R : ℕ → Type 0} {text inputs : List ℕ} {budget : ℕ} {answer : List ℕ} where
-  plain-outcome : {a : PlainAnswer} → PlainOutcome R text inputs budget answer a → Outcome R (λ r. r ≡ 0) (a .returns)
+  plain-outcome : {a : PlainAnswer} → PlainOutcome R text inputs budget answer a → Outcome R Zero (a .returns)
   plain-outcome (notRun f h) = refusal f
   plain-outcome (run f e) = success f refl
 
@@ -359,7 +363,7 @@ module _ (text inputs : List ℕ) (budget : ℕ) (answer : List ℕ) where
   unfolding Calls.plainCall
   plain-comes = plain-on text inputs budget answer _ (call-outcome text (λ n. never) _ _)
 
-  pub plain-refuses : Refuses (PlainReason text inputs budget answer) 1 8 (λ r. r ≡ 0) (Calls.plainCall text inputs budget answer .returns)
+  pub plain-refuses : Refuses (PlainReason text inputs budget answer) 1 8 Zero (Calls.plainCall text inputs budget answer .returns)
   plain-refuses =
       refuses 1 8 (reason-range 8 (omega arith) (λ n. never)) (omega arith) (omega arith) (λ e l h. omega arith) (plain-outcome plain-comes)
 
@@ -431,11 +435,14 @@ module _ (success : Pool → List (Row Ref) → ℕ) (text : List ℕ) (budget m
 
 module _ {R : ℕ → Type 0} {succeed : Pool → List (Row Ref) → ℕ} {text : List ℕ} {budget most : ℕ} {t w : List ℕ} where
   tables-outcome :
-      {a : TableAnswer} {Success : ℕ → Type 0} → ((terms : Pool) (rows : List (Row Ref)) → Success (succeed terms rows))
-      → TablesOutcome R succeed text budget most t w a → Outcome R Success (a .returns)
+      {a : TableAnswer} {Success : ℕ → Type 0}
+      → ((p : Program) (terms : Pool) (rows : List (Row Ref)) → ((n : ℕ) → R n → ⊥) → checkText text ≡ accepted p
+      → table p budget most ≡ explored terms rows → Success (succeed terms rows))
+      → TablesOutcome R succeed text budget most t w a
+      → Outcome R Success (a .returns)
   tables-outcome s (notExplored f h) = refusal f
   tables-outcome s (overrun f h) = refusal f
-  tables-outcome s (tabled {terms = terms} {rows = rows} f e g) = success f (s terms rows)
+  tables-outcome s (tabled {p} {terms} {rows} f e g) = success f (s p terms rows f e g)
 
   -- a success is no refusal's number
   tables-leave :
@@ -456,17 +463,52 @@ module _ {R : ℕ → Type 0} {succeed : Pool → List (Row Ref) → ℕ} {text 
   tables-as (tabled {p} {terms} {rows} f e d) g =
       record { program = p; terms = terms; rows = rows; reads = e; explores = d; is = refl }
 
+-- budgets that are not refused, and the rows there are then
+budgets-within : (budget most : ℕ) → (Calls.wrongBudgets budget most ≡ true → ⊥) → (budget ≤ 1024) × (most ≤ 16)
+unfolding Calls.wrongBudgets
+budgets-within budget most f = at (leb 1 budget) (leb budget 1024) refl (ltb 16 most) refl f
+  where
+    at :
+        (a b : Bool) → leb budget 1024 ≡ b → (c : Bool) → ltb 16 most ≡ c → (not (a && b) || c ≡ true → ⊥) → (budget ≤ 1024) × (most ≤ 16)
+    at true true d false e g = (leb-true budget 1024 d, ltb-false 16 most e)
+    at true true d true e g = absurd (g refl)
+    at true false d c e g = absurd (g refl)
+    at false b d c e g = absurd (g refl)
+
+-- the table of an accepted text is sound
+pub sound-table :
+    (text : List ℕ) (budget most : ℕ) → (Calls.wrongBudgets budget most ≡ true → ⊥)
+    → {p : Program} {terms : Pool} {rows : List (Row Ref)}
+    → checkText text ≡ accepted p
+    → table p budget most ≡ explored terms rows
+    → Sound terms rows
+sound-table text budget most right {p} reads explores =
+    let (small, few) = budgets-within budget most right in
+    exploring-sound budget most (accepted-well-formed text p reads) small few explores
+
+pub placed-row :
+    (text : List ℕ) (budget most : ℕ) → (Calls.wrongBudgets budget most ≡ true → ⊥) → (inputs : List ℕ)
+    → {p : Program} {terms : Pool} {rows : List (Row Ref)}
+    → checkText text ≡ accepted p
+    → table p budget most ≡ explored terms rows
+    → (256 ≤ 256 + placed inputs terms rows) × (256 + placed inputs terms rows < 320)
+placed-row text budget most right inputs {p} {terms} {rows} reads explores =
+    let s : Sound terms rows = sound-table text budget most right reads explores in
+    let (a, e) = of-the-table p budget most inputs terms rows explores in
+    let h : a .place < length rows = stands-below (a .stands) in
+    omega (arith, s .fewRows)
+
 module _ (text : List ℕ) (budget most : ℕ) (t w : List ℕ) where
   explore-comes : TablesOutcome (ExploreReason text budget most t w) Calls.succeeds text budget most t w (Calls.exploreCall text budget most t w)
   unfolding Calls.exploreCall
   explore-comes = tables-on Calls.succeeds text budget most t w _ (call-outcome text (λ n r. overrun-late n r .0) _ _)
 
   pub explore-refuses :
-      Refuses (ExploreReason text budget most t w) 1 10 (λ r. r ≡ 0) (Calls.exploreCall text budget most t w .returns)
+      Refuses (ExploreReason text budget most t w) 1 10 Zero (Calls.exploreCall text budget most t w .returns)
   unfolding Calls.succeeds
   explore-refuses =
       refuses 1 10 (reason-range 10 (omega arith) overrun-late) (omega arith) (omega arith) (λ e l h. omega arith)
-      (tables-outcome (λ terms rows. refl) explore-comes)
+      (tables-outcome (λ p terms rows none e g. refl) explore-comes)
 
   pub explore-leaves : Leaves t w (Calls.exploreCall text budget most t w)
   unfolding Calls.succeeds
@@ -485,11 +527,11 @@ module _ (text inputs : List ℕ) (budget most : ℕ) (t w : List ℕ) where
   place-comes = tables-on (Calls.placesIn inputs) text budget most t w _ (call-outcome text (λ n r. overrun-late n r .0) _ _)
 
   pub place-refuses :
-      Refuses (PlaceReason text inputs budget most t w) 1 10 (λ r. 256 ≤ r) (Calls.placeCall text inputs budget most t w .returns)
+      Refuses (PlaceReason text inputs budget most t w) 1 10 ARow (Calls.placeCall text inputs budget most t w .returns)
   unfolding Calls.placesIn
   place-refuses =
       refuses 1 10 (reason-range 10 (omega arith) overrun-late) (omega arith) (omega arith) (λ e l h. omega arith)
-      (tables-outcome (λ terms rows. omega arith) place-comes)
+      (tables-outcome (λ p terms rows none e g. placed-row text budget most (λ d. none 1 (ofBudgets d)) (inputWords inputs) e g) place-comes)
 
   pub place-leaves : Leaves t w (Calls.placeCall text inputs budget most t w)
   unfolding Calls.placesIn

@@ -52,7 +52,7 @@ pub each-at : {A : Type 0} {P : A → Type 0} {k : ℕ} {a : A} {l : List A} →
 each-at (WellFormed.more p ps) here = p
 each-at (WellFormed.more p ps) (further s) = each-at ps s
 
-stands-below : {A : Type 0} {k : ℕ} {a : A} {l : List A} → Stands k a l → k < length l
+pub stands-below : {A : Type 0} {k : ℕ} {a : A} {l : List A} → Stands k a l → k < length l
 stands-below here = omega arith
 stands-below (further s) = let h : _ < _ = stands-below s in omega arith
 

@@ -1,5 +1,6 @@
 -- "See these rejected": wrong versions of the calls, and for each the demand that refuses it, as a theorem. docs/WRONG-VERSIONS.md lists them.
--- A version is refused if it is wrong on one text that a demand speaks of; the texts are those of examples 1 and 8. Assumes nothing.
+-- A version is refused if it is wrong on one text; the texts are those of examples 1 and 8, and one that makes too many terms (Examples).
+-- Assumes nothing.
 use Prim.Native.Nat.{ℕ, zero, suc, _+_, _*_, _%_, _≤_, _<_}
 use native.Mathlib.Omega.{arith}
 use mathlib.Core.Path.{_≡_, refl, sym, _∙_, ap, ap₂, subst}
@@ -17,23 +18,21 @@ use Rattle.gil.specs.Pool.{Ref, placeIn, Pool, pooled, table, valueOf}
 use Rattle.gil.specs.Accounts.{putEnd, putVariable, rowWith, putOutcome, putIn, Stands, here, further, Accounts, explorationAfter}
 use Rattle.gil.specs.Demand3.{after-every-command}
 use Rattle.gil.specs.Plain.{plainRun}
-use Rattle.gil.specs.Theory.Tests.{and-left, and-right}
+use Rattle.gil.specs.Theory.Tests.{no-false, and-left, and-right}
 use Rattle.gil.specs.Layout.{tableLength, poolLength, answerLength, inputsLength, wordBytes, rowBytes, room, constantWords, valueWords, reasonCode, endWords, outcomeWords, headWords, rowWords, refTag, tableBytes, poolBytes, answerBytes, inputWords}
 use Rattle.gil.specs.Calls as Calls
 use Rattle.gil.specs.Calls.{PlainAnswer, TableAnswer}
 use Rattle.code.specs.WellFormed.{none, more}
-use Rattle.code.specs.Accepted.{accepted-well-formed}
 use Rattle.words.specs.Words.{wordAt}
 use Rattle.locate.specs.Inputs.{Bytes}
 use Rattle.locate.specs.Sound.{Sound, RowFits, OutcomeFits, fitsEnded, fitsVanished, fitsCut}
-use Rattle.locate.specs.Exploring.{exploring-sound}
 use Rattle.locate.specs.Laws.{RowAt, row-count}
 use Rattle.demands.specs.Reasons.{CheckReason, PlainReason, ExploreReason, PlaceReason}
-use Rattle.demands.specs.Refusals.{check-refuses, plain-refuses, plain-runs, explore-refuses, place-refuses}
+use Rattle.demands.specs.Refusals.{check-refuses, plain-refuses, plain-runs, sound-table, placed-row, explore-refuses, place-refuses}
 use Rattle.demands.specs.Determined.{ran-as, explored-as}
 use Rattle.demands.specs.FromBytes.{rowsIn, stepsIn, putInBytes, OneRow}
 use Rattle.demands.specs.Rows.{each-at, stands-at, rows-read, meets-read, steps-read, put-read}
-use Rattle.demands.specs.Examples.{text8, program8, row8, textA, programA, termsA, rowA, rowA′, inputs38, textMany, computed}
+use Rattle.demands.specs.Examples.{text8, program8, row8, textA, termsA, rowA, rowA′, inputs38, textMany, computed}
 use Rattle.demands.specs.Demands.{FourCalls, Demand1, Demand2, Demand3}
 
 -- lent memory, and inputs, of just the length needed
@@ -57,6 +56,10 @@ enough n =
 tables-long : Calls.shortTables lentTable lentPool ≡ false
 unfolding Calls.shortTables lentTable lentPool
 tables-long = ap₂ (λ (a b : Bool). a || b) (enough tableLength) (enough poolLength)
+
+budgets-right : Calls.wrongBudgets 1024 16 ≡ true → ⊥
+unfolding Calls.wrongBudgets
+budgets-right e = no-false e refl
 
 inputs-long : Calls.wrongInputs noInputs ≡ false
 unfolding Calls.wrongInputs noInputs
@@ -89,7 +92,7 @@ module _
     unfolding Calls.placeCall Calls.placesIn
     place-none =
         place-refuses text noInputs 1024 16 lentTable lentPool .otherwise .0
-        (let e : _ ≡ _ = tables-go (Calls.placesIn noInputs) _ (ap₂ (λ (a b : Bool). a || b) inputs-long tables-long) in rw e (omega arith))
+        (let e : _ ≡ _ = tables-go (Calls.placesIn noInputs) _ (ap₂ (λ (a b : Bool). a || b) inputs-long tables-long) in rw e (placed-row text 1024 16 budgets-right (inputWords noInputs) reads explores))
 
     plain-none : (budget : ℕ) → Calls.wrongBudget budget ≡ false → (n : ℕ) → PlainReason text noInputs budget lentAnswer n → ⊥
     unfolding Calls.plainCall Calls.firstOf Calls.plainOn
@@ -134,7 +137,7 @@ module _ (c : FourCalls) where
   pub no-place-refuses-all :
       ((text inputs : List ℕ) (budget most : ℕ) (t w : List ℕ) → c .place text inputs budget most t w .returns ≤ 10) → Demand1 c → ⊥
   no-place-refuses-all always d =
-      let e : 256 ≤ c .place text8 noInputs 1024 16 lentTable lentPool .returns =
+      let (e, _) =
       d .place text8 noInputs 1024 16 lentTable lentPool .otherwise .1 (place-none text8 (computed .reads8) (computed .table8)) in
       omega (arith, always text8 noInputs 1024 16 lentTable lentPool)
 
@@ -153,10 +156,10 @@ module _ (c : FourCalls) where
 
 -- the tables of the two texts are sound, and so are those that wrong versions make of their rows
 sound-8 : Sound [] (row8 (ended vanished) 1 ∷ [])
-sound-8 = exploring-sound 1024 16 (accepted-well-formed text8 program8 (computed .reads8)) (omega arith) (omega arith) (computed .table8)
+sound-8 = sound-table text8 1024 16 budgets-right (computed .reads8) (computed .table8)
 
 sound-A : Sound termsA (rowA ∷ rowA′ ∷ [])
-sound-A = exploring-sound 1024 16 (accepted-well-formed textA programA (computed .readsA)) (omega arith) (omega arith) (computed .tableA)
+sound-A = sound-table textA 1024 16 budgets-right (computed .readsA) (computed .tableA)
 
 sound-twice : Sound termsA (rowA ∷ rowA ∷ [])
 sound-twice =
