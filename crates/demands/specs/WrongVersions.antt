@@ -28,9 +28,9 @@ use Rattle.locate.specs.Inputs.{Bytes}
 use Rattle.locate.specs.Sound.{Sound, RowFits, OutcomeFits, fitsEnded, fitsVanished, fitsCut}
 use Rattle.locate.specs.Laws.{RowAt, row-count}
 use Rattle.demands.specs.Reasons.{CheckReason, PlainReason, ExploreReason, PlaceReason}
-use Rattle.demands.specs.Refusals.{check-refuses, plain-refuses, plain-runs, sound-table, placed-row, explore-refuses, place-refuses}
+use Rattle.demands.specs.Refusals.{check-refuses, plain-refuses, plain-runs, sound-table, placed-row, explore-refuses, explore-explores, place-refuses}
 use Rattle.demands.specs.Determined.{ran-as, explored-as}
-use Rattle.demands.specs.FromBytes.{rowsIn, stepsIn, putInBytes, OneRow}
+use Rattle.demands.specs.FromBytes.{rowsIn, stepsIn, meetsRow, putInBytes, OneRow}
 use Rattle.demands.specs.Rows.{each-at, stands-at, rows-read, meets-read, steps-read, put-read}
 use Rattle.demands.specs.Examples.{text8, program8, row8, textA, termsA, rowA, rowA′, inputs38, textMany, computed}
 use Rattle.demands.specs.Demands.{FourCalls, Demand1, Demand2, Demand3}
@@ -294,7 +294,17 @@ module _ (c : FourCalls) (d : Demand2 c) where
       let z : _≡_ {A = ℕ} 3 5 = other-row (cut steps) 0 fitsCut (omega arith) e 0 (omega arith) in
       omega arith
 
-  -- THE FIRST PATH AND AN INVENTED REST (demand 2): example 1's first row, twice
+  -- THE FIRST PATH AND AN INVENTED REST (demand 2): any other table, pool or answer than the definitions' is refused, on any text; so example
+  -- 1's first row, twice
+  pub no-invented-table :
+      (text : List ℕ) (budget most : ℕ) (t w : List ℕ)
+      → ((n : ℕ) → ExploreReason text budget most t w n → ⊥)
+      → (c .explore text budget most t w ≡ Calls.exploreCall text budget most t w → ⊥)
+      → ⊥
+  no-invented-table text budget most t w no-reason other =
+      let y = explore-explores text budget most t w no-reason in
+      other (explored-as (d .explore text budget most t w no-reason) (y .reads) (y .explores) ∙ sym (y .is))
+
   pub no-invented-rest :
       c .explore textA 1024 16 lentTable lentPool .table ≡ tableBytes termsA (rowA ∷ rowA ∷ []) ++ drop tableLength lentTable → ⊥
   unfolding rowA rowA′ rowWords headWords outcomeWords endWords room valueWords constantWords
@@ -366,16 +376,31 @@ module _ (c : FourCalls) (d : Demand3 c) where
       (d .accounts text inputs 1024 16 lentTable lentPool lentAnswer long bytes answer-room
       (ap (λ (b : TableAnswer). b .returns) e ∙ success))
 
-  -- THE FIRST PATH AND AN INVENTED REST (demand 3): the inputs 3 and 8 meet both rows' conditions
+  -- THE FIRST PATH AND AN INVENTED REST (demand 3): no inputs meet two rows' conditions; of example 1's first row, twice, 3 and 8 meet both
+  pub no-two-rows :
+      (text inputs : List ℕ) → length inputs ≡ inputsLength → Bytes inputs → (a : TableAnswer)
+      → c .explore text 1024 16 lentTable lentPool ≡ a
+      → a .returns ≡ 0
+      → (j k : ℕ)
+      → j < k
+      → k < rowsIn (a .table)
+      → meetsRow (a .table) (a .pool) inputs j ≡ true
+      → meetsRow (a .table) (a .pool) inputs k ≡ true
+      → ⊥
+  no-two-rows text inputs long bytes a e success j k before there meets-j meets-k =
+      let o = row-among text inputs long bytes a e success in
+      let first : j ≡ o .row = o .only j (omega arith) meets-j in
+      let second : k ≡ o .row = o .only k there meets-k in
+      omega arith
+
   pub no-invented-rest-3 : c .explore textA 1024 16 lentTable lentPool ≡ wrongTable termsA (rowA ∷ rowA ∷ []) → ⊥
   no-invented-rest-3 e =
       let x : List ℕ = drop tableLength lentTable in
       let y : List ℕ = drop poolLength lentPool in
-      let o = row-among textA inputs38 long-38 bytes-38 (wrongTable termsA (rowA ∷ rowA ∷ [])) e refl in
       let rows : rowsIn (tableBytes termsA (rowA ∷ rowA ∷ []) ++ x) ≡ 2 = rows-read sound-twice x y inputs38 long-38 bytes-38 in
-      let first : 0 ≡ o .row = o .only 0 (omega arith) (meets-read sound-twice x y inputs38 long-38 bytes-38 here ∙ computed .meetsA) in
-      let second : 1 ≡ o .row = o .only 1 (omega arith) (meets-read sound-twice x y inputs38 long-38 bytes-38 (further here) ∙ computed .meetsA) in
-      omega arith
+      no-two-rows textA inputs38 long-38 bytes-38 (wrongTable termsA (rowA ∷ rowA ∷ [])) e refl 0 1 (omega arith) (omega arith)
+      (meets-read sound-twice x y inputs38 long-38 bytes-38 here ∙ computed .meetsA)
+      (meets-read sound-twice x y inputs38 long-38 bytes-38 (further here) ∙ computed .meetsA)
 
   -- A MADE-UP COUNT OF STEPS (demand 3): the plain run given seven steps uses one
   pub no-made-up-steps-3 :
