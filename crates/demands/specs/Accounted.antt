@@ -9,19 +9,21 @@ use borrow.Author.Tests.{le-ltb, eq-eqb}
 use Rattle.gil.specs.Names.{Program, accepted, checkText}
 use Rattle.gil.specs.Rows.{Row}
 use Rattle.gil.specs.Explore.{explored}
-use Rattle.gil.specs.Pool.{Ref, Pool, table, placed}
+use Rattle.gil.specs.Pool.{Ref, Pool, table, valueOf, poolValues, meets, placed}
+use Rattle.gil.specs.Accounts.{putIn, Stands}
 use Rattle.gil.specs.Demand3.{of-the-table}
 use Rattle.gil.specs.Theory.Tests.{no-false}
-use Rattle.gil.specs.Layout.{tableLength, poolLength, answerLength, inputsLength, tableBytes, poolBytes, inputWords}
+use Rattle.gil.specs.Layout.{tableLength, poolLength, answerLength, inputsLength, tableBytes, poolBytes, answerBytes, inputWords}
 use Rattle.gil.specs.Calls as Calls
-use Rattle.gil.specs.Calls.{TableAnswer}
+use Rattle.gil.specs.Calls.{PlainAnswer, TableAnswer}
+use Rattle.words.specs.Words.{wordAt}
 use Rattle.locate.specs.Sound.{Sound}
 use Rattle.locate.specs.Inputs.{Bytes}
 use Rattle.demands.specs.Reasons.{ofBudgets, ofLists, ofText, ofExploring, PlainReason, ExploreReason, PlaceReason, ExploresAs}
 use Rattle.demands.specs.Refusals.{sound-table, plain-runs, explore-refuses, explore-explores, place-explores}
 use Rattle.demands.specs.Determined.{ran-as, explored-as, same-tables}
-use Rattle.demands.specs.FromBytes.{stepsIn, OneRow}
-use Rattle.demands.specs.Rows.{Found, accounted-found}
+use Rattle.demands.specs.FromBytes.{rowsIn, stepsIn, meetsRow, putInBytes, OneRow}
+use Rattle.demands.specs.Rows.{Found, rows-read, meets-read, steps-read, put-read, accounted-found}
 
 -- Arguments that are not refused
 inputs-right : (inputs : List ℕ) → length inputs ≡ inputsLength → Calls.wrongInputs inputs ≡ false
@@ -85,13 +87,16 @@ module _ (text inputs : List ℕ) (budget most : ℕ) (t w : List ℕ) where
           let n : ℕ = stepsIn (tableBytes terms rows ++ drop tableLength t) (f .row) in
           let place = place-explores text inputs budget most t w (λ k r. none k (place-reason long k r)) in
           let run = plain-runs text inputs n answer (λ k r. none k (plain-reason n answer long (f .few) room k r)) in
+          let ran =
+          ran-as run reads ∙ ap (λ (l : List ℕ). record { returns = 0; answer = l ++ drop answerLength answer }) (f .ran) in
           record {
             row = f .row;
             there = f .there;
             met = f .met;
             only = f .only;
             placed = ap (λ (a : TableAnswer). a .returns) (explored-as place reads explores) ∙ ap (λ (k : ℕ). 256 + k) (f .placed);
-            ran = ran-as run reads ∙ ap (λ (l : List ℕ). record { returns = 0; answer = l ++ drop answerLength answer }) (f .ran);
+            ran = ran;
+            used = ap (λ (a : PlainAnswer). wordAt (a .answer) 12) ran ∙ f .used (drop answerLength answer);
           }
 
       from-tables :
@@ -112,3 +117,27 @@ module _ (text inputs : List ℕ) (budget most : ℕ) (t w : List ℕ) where
       (Calls.placeCall text inputs budget most t w .returns) (λ steps. Calls.plainCall text inputs steps answer)
   one-row answer long bytes room success =
       from-tables answer long bytes room (no-reason success) (explore-explores text budget most t w (no-reason success))
+
+-- what FromBytes reads in the bytes of an accepted text's table and pool
+module _
+    (text : List ℕ) (budget most : ℕ) (right : Calls.wrongBudgets budget most ≡ false) {p : Program} {terms : Pool} {rows : List (Row Ref)}
+    (reads : checkText text ≡ accepted p) (explores : table p budget most ≡ explored terms rows) (surplus rest inputs : List ℕ)
+    (long : length inputs ≡ inputsLength) (bytes : Bytes inputs)
+  where
+    pub bytes-read :
+        (rowsIn (tableBytes terms rows ++ surplus) ≡ length rows)
+        × ((k : ℕ) (r : Row Ref) → Stands k r rows
+        → (meetsRow (tableBytes terms rows ++ surplus) (poolBytes terms ++ rest) inputs k
+        ≡ meets (poolValues (inputWords inputs) terms) (r .conditions))
+        × (stepsIn (tableBytes terms rows ++ surplus) k ≡ r .steps)
+        × (putInBytes (tableBytes terms rows ++ surplus) (poolBytes terms ++ rest) inputs k
+        ≡ answerBytes (putIn (valueOf (poolValues (inputWords inputs) terms)) r)))
+    bytes-read =
+        let s : Sound terms rows = sound-table text budget most (λ e. no-false e right) reads explores in (
+          rows-read s surplus rest inputs long bytes,
+          λ k r stands. (
+            meets-read s surplus rest inputs long bytes stands,
+            steps-read s surplus rest inputs long bytes stands,
+            put-read s surplus rest inputs long bytes stands,
+          ),
+        )

@@ -6,22 +6,23 @@
 -- WrongVersions. Nothing is assumed: a list of numbers stands for bytes, a number for a budget.
 use Prim.Native.Nat.{ℕ, _≤_}
 use mathlib.Core.Path.{_≡_, sym, _∙_}
+use mathlib.Core.Bool.{false}
 use mathlib.Core.List.{List, _++_, map}
 use lib.ListN.{length}
 use Rattle.gil.specs.Names.{Program, accepted, checkText}
 use Rattle.gil.specs.Rows.{Path, Row, cutFor, steps}
-use Rattle.gil.specs.Explore.{exploring}
-use Rattle.gil.specs.Pool.{Ref, Pool}
-use Rattle.gil.specs.Accounts.{Accounts, explorationAfter}
+use Rattle.gil.specs.Explore.{explored, exploring}
+use Rattle.gil.specs.Pool.{Ref, Pool, table, valueOf, poolValues, meets}
+use Rattle.gil.specs.Accounts.{putIn, Stands, Accounts, explorationAfter}
 use Rattle.gil.specs.Demand3.{after-every-command}
-use Rattle.gil.specs.Layout.{answerLength, inputsLength}
+use Rattle.gil.specs.Layout.{answerLength, inputsLength, tableBytes, poolBytes, answerBytes, inputWords}
 use Rattle.gil.specs.Calls as Calls
 use Rattle.gil.specs.Calls.{PlainAnswer, TableAnswer}
 use Rattle.locate.specs.Inputs.{Bytes}
 use Rattle.demands.specs.Reasons.{CheckReason, PlainReason, ExploreReason, PlaceReason, Zero, ARow, Refuses, Leaves, RunsAs, ExploresAs}
 use Rattle.demands.specs.Refusals.{check-refuses, plain-refuses, plain-untouched, plain-runs, explore-refuses, explore-leaves, explore-explores, place-refuses, place-leaves, place-explores}
-use Rattle.demands.specs.FromBytes.{OneRow}
-use Rattle.demands.specs.Accounted.{one-row, same-exploring}
+use Rattle.demands.specs.FromBytes.{rowsIn, stepsIn, meetsRow, putInBytes, OneRow}
+use Rattle.demands.specs.Accounted.{one-row, same-exploring, bytes-read}
 use Rattle.demands.specs.Determined.{same-check, same-plain, same-exploration}
 
 -- any version of the four calls: what each returns, and the bytes of lent memory afterwards
@@ -119,6 +120,26 @@ pub record Demand3 (c : FourCalls) : Type 0 where
 
 pub demand-3 : Demand3 theCalls
 demand-3 = record { accounts = one-row; places = same-exploring }
+
+-- What FromBytes reads in those bytes is what the definitions say of the rows: their number; and of each row whether the inputs meet its
+-- conditions, its steps, and its bytes as an answer once the inputs are put in.
+pub demand-3-bytes :
+    (text : List ℕ) (budget most : ℕ)
+    → Calls.wrongBudgets budget most ≡ false
+    → {p : Program} {terms : Pool} {rows : List (Row Ref)}
+    → checkText text ≡ accepted p
+    → table p budget most ≡ explored terms rows
+    → (surplus rest inputs : List ℕ)
+    → length inputs ≡ inputsLength
+    → Bytes inputs
+    → (rowsIn (tableBytes terms rows ++ surplus) ≡ length rows)
+    × ((k : ℕ) (r : Row Ref) → Stands k r rows
+    → (meetsRow (tableBytes terms rows ++ surplus) (poolBytes terms ++ rest) inputs k
+    ≡ meets (poolValues (inputWords inputs) terms) (r .conditions))
+    × (stepsIn (tableBytes terms rows ++ surplus) k ≡ r .steps)
+    × (putInBytes (tableBytes terms rows ++ surplus) (poolBytes terms ++ rest) inputs k
+    ≡ answerBytes (putIn (valueOf (poolValues (inputWords inputs) terms)) r)))
+demand-3-bytes = bytes-read
 
 -- "The same holds after every command of the exploration, over finished rows and waiting branches (read as cut) together": there are no
 -- bytes then, so this is said of the definitions, for the program of an accepted text.

@@ -1,6 +1,6 @@
 -- A sound row's words, with inputs put in, are the words of the row with the inputs put in: what is read from the bytes is what demand 3
 -- says of the definitions. Assumes nothing.
-use Prim.Native.Nat.{ℕ, zero, suc, _+_, _*_, _-_, _/_, _%_, _≤_}
+use Prim.Native.Nat.{ℕ, zero, suc, _+_, _*_, _-_, _/_, _%_, _≤_, _<_}
 use native.Mathlib.Omega.{arith}
 use mathlib.Core.Path.{_≡_, refl, sym, _∙_, ap, ap₂}
 use mathlib.Core.Bool.{Bool, true, false}
@@ -15,13 +15,15 @@ use Rattle.gil.specs.Machine.{Cell, returned, failed, vanished, error}
 use Rattle.gil.specs.Rows.{steps, branches, Outcome, ended, cut, Row}
 use Rattle.gil.specs.Pool.{Ref, numberTerm, booleanTerm, placeIn, Pool, valueOf}
 use Rattle.gil.specs.Accounts as Accounts
-use Rattle.gil.specs.Layout.{room, bit, constantWords, valueWords, variableWords, cellWords, conditionWords, endWords, outcomeWords, headWords, rowWords, reasonCode, refTag, noNumber}
+use Rattle.gil.specs.Layout.{wordBytes, rowBytes, answerBytes, room, bit, constantWords, valueWords, variableWords, cellWords, conditionWords, endWords, outcomeWords, headWords, rowWords, reasonCode, refTag, noNumber}
 use Rattle.code.specs.WellFormed as WellFormed
 use Rattle.code.specs.WellFormed.{Each}
+use Rattle.words.specs.Words.{wordAt}
+use Rattle.words.specs.Reads.{wordAt-bytes}
 use Rattle.values.specs.Packed.{if?, truthWord}
 use Rattle.values.specs.Laws.{ConstAs, aNumber, aTruth, aLocation}
 use Rattle.locate.specs.Sound.{ValueFits, fitsNumber, fitsTruth, fitsLocation, fitsTerm, VariableFits, unbound, bound, CellFits, fitsReturned, fitsFailed, fitsVanished, fitsError, OutcomeFits, fitsEnded, fitsCut, RowFits}
-use Rattle.locate.specs.Terms.{ValuesAs, tagOf, wordOf, two-words}
+use Rattle.locate.specs.Terms.{gather-append, length-words, ValuesAs, tagOf, wordOf, two-words}
 use Rattle.locate.specs.Laws.{length-room, length-parts, length-variable, length-cell, length-condition, length-head}
 use Rattle.demands.specs.FromBytes.{putTag, putWord, putVariables, putCells, putOutcome, putHead, putRow}
 
@@ -209,3 +211,34 @@ module _ {w : Pool} {cs : List Constant} {vs : List ℕ} (values : ValuesAs w cs
       (variables-zeros vs) 2 32 length-variable length-known (f .variables .variables))
       (put-room (putCells vs) (cellWords refTag placeIn) (cellWords noNumber noNumber) (Accounts.putCell value) cell-put
       (cells-zeros vs) 4 128 length-cell length-kept (f .cells .cells))
+
+-- word 3 of an answer is its steps
+length-known-outcome : (o : Outcome ⊥) → length (outcomeWords noNumber noNumber o) ≡ 3
+unfolding outcomeWords endWords
+length-known-outcome (ended (returned v)) = ap suc (length-constant v)
+length-known-outcome (ended (failed v)) = ap suc (length-constant v)
+length-known-outcome (ended vanished) = refl
+length-known-outcome (ended (error n)) = refl
+length-known-outcome (cut why) = refl
+
+regroup : (o s z c v d y : List ℕ) → ((o ++ s) ++ z) ++ c ++ v ++ d ++ y ≡ o ++ (s ++ (z ++ (c ++ (v ++ (d ++ y)))))
+regroup o s z c v d y = simp append-assoc
+
+steps-among :
+    (o : List ℕ) (s : ℕ) (m z c v d y x : List ℕ)
+    → gather wordBytes (((o ++ (s ∷ m)) ++ z) ++ c ++ v ++ d ++ y) ++ x
+    ≡ gather wordBytes o ++ (wordBytes s ++ (gather wordBytes (m ++ (z ++ (c ++ (v ++ (d ++ y))))) ++ x))
+unfolding gather
+steps-among o s m z c v d y x =
+    ap (λ (l : List ℕ). gather wordBytes l ++ x) (regroup o (s ∷ m) z c v d y)
+    ∙ ap (λ (l : List ℕ). l ++ x) (gather-append wordBytes o (s ∷ (m ++ (z ++ (c ++ (v ++ (d ++ y)))))))
+    ∙ simp append-assoc
+
+pub answer-steps : (q : Row ⊥) → q .steps < 4294967296 → (x : List ℕ) → wordAt (answerBytes q ++ x) 12 ≡ q .steps
+unfolding answerBytes rowBytes rowWords headWords room
+answer-steps q h x =
+    let o : List ℕ = outcomeWords noNumber noNumber (q .outcome) in
+    let twelve : 12 ≡ length (gather wordBytes o) = sym (length-words o ∙ ap (λ (n : ℕ). 4 * n) (length-known-outcome (q .outcome))) in
+    ap (λ (l : List ℕ). wordAt l 12) (steps-among o (q .steps) _ _ _ _ _ _ x)
+    ∙ ap (wordAt _) twelve
+    ∙ wordAt-bytes (gather wordBytes o) _ (q .steps) h
