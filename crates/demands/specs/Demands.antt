@@ -2,8 +2,8 @@
 -- theorem: the calls of document 01's definitions (crates/gil/specs/Calls.antt) meet it. What an exported function promises is that it is the
 -- call of its name there: it returns what that says, and leaves every byte of lent memory as that says. So what is proved here holds of it.
 -- The words used are Reasons' (why a call refuses, and by which number) and FromBytes' (what a C caller reads from the bytes); all others
--- are the definitions'. Proofs: Refusals (1 and 2), PutIn, Rows and Accounted (3), Determined. Wrong versions that the demands refuse:
--- WrongVersions. Nothing is assumed: a list of numbers stands for bytes, a number for a budget.
+-- are the definitions'. Proofs: Texts, Overruns and Refusals (1 and 2), PutIn, Rows and Accounted (3), Determined. Wrong versions that the
+-- demands refuse: WrongVersions. Nothing is assumed: a list of numbers stands for bytes, a number for a budget.
 use Prim.Native.Nat.{ℕ, _≤_}
 use mathlib.Core.Path.{_≡_, sym, _∙_}
 use mathlib.Core.Bool.{false}
@@ -160,7 +160,8 @@ two-outcomes e f = e ∙ sym f
 pub record Same (c d : FourCalls) : Type 0 where
   pub check : (text : List ℕ) → c .check text ≡ d .check text
   pub plain :
-      (text inputs : List ℕ) (budget : ℕ) (lentAnswer : List ℕ) → c .plain text inputs budget lentAnswer ≡ d .plain text inputs budget lentAnswer
+      (text inputs : List ℕ) (budget : ℕ) (lentAnswer : List ℕ)
+      → c .plain text inputs budget lentAnswer ≡ d .plain text inputs budget lentAnswer
   pub explore :
       (text : List ℕ) (budget most : ℕ) (lentTable lentPool : List ℕ)
       → c .explore text budget most lentTable lentPool ≡ d .explore text budget most lentTable lentPool
@@ -174,7 +175,8 @@ determined c d c1 c2 d1 d2 =
       check = λ s. same-check (c1 .check s) (d1 .check s);
       plain =
           λ s i n l.
-          same-plain (c1 .plain s i n l) (d1 .plain s i n l) (c1 .plainLeaves s i n l) (d1 .plainLeaves s i n l) (c2 .plain s i n l) (d2 .plain s i n l);
+          same-plain (c1 .plain s i n l) (d1 .plain s i n l) (c1 .plainLeaves s i n l) (d1 .plainLeaves s i n l) (c2 .plain s i n l)
+          (d2 .plain s i n l);
       explore =
           λ s n m t w.
           same-exploration (c1 .explore s n m t w) (d1 .explore s n m t w) (c1 .exploreLeaves s n m t w) (d1 .exploreLeaves s n m t w)

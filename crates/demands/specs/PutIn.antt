@@ -3,7 +3,7 @@
 use Prim.Native.Nat.{ℕ, zero, suc, _+_, _*_, _-_, _/_, _%_, _≤_, _<_}
 use native.Mathlib.Omega.{arith}
 use mathlib.Core.Path.{_≡_, refl, sym, _∙_, ap, ap₂}
-use mathlib.Core.Bool.{Bool, true, false}
+use mathlib.Core.Bool.{true, false}
 use mathlib.Core.List.{List, [], _∷_, _++_, map, append-assoc}
 use mathlib.Core.Option.{Option, none, some}
 use lib.ListN.{length, take, drop, replicate, length-append, length-map}
@@ -20,7 +20,7 @@ use Rattle.code.specs.WellFormed as WellFormed
 use Rattle.code.specs.WellFormed.{Each}
 use Rattle.words.specs.Words.{wordAt}
 use Rattle.words.specs.Reads.{wordAt-bytes}
-use Rattle.values.specs.Packed.{if?, truthWord}
+use Rattle.values.specs.Packed.{truthWord}
 use Rattle.values.specs.Laws.{ConstAs, aNumber, aTruth, aLocation}
 use Rattle.locate.specs.Sound.{ValueFits, fitsNumber, fitsTruth, fitsLocation, fitsTerm, VariableFits, unbound, bound, CellFits, fitsReturned, fitsFailed, fitsVanished, fitsError, OutcomeFits, fitsEnded, fitsCut, RowFits}
 use Rattle.locate.specs.Terms.{gather-append, length-words, ValuesAs, tagOf, wordOf, two-words}

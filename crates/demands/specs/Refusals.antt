@@ -1,23 +1,21 @@
--- The definitions of the calls refuse by the first reason that holds: the proofs behind demands 1 and 2. Assumes nothing.
-use Prim.Native.Nat.{ℕ, zero, suc, _+_, _*_, _≤_, _<_}
+-- The definitions of the calls refuse by the first reason that holds, and come to the definitions' answers where none does: the proofs
+-- behind demands 1 and 2. Assumes nothing.
+use Prim.Native.Nat.{ℕ, zero, suc, _+_, _≤_, _<_}
 use native.Mathlib.Omega.{arith}
-use mathlib.Core.Path.{_≡_, refl, sym, _∙_, ap, subst}
-use mathlib.Core.Logic.{_⊎_, inl, inr}
+use mathlib.Core.Path.{_≡_, refl, sym, _∙_, subst}
+use mathlib.Core.Logic.{inl, inr}
 use mathlib.Core.Bool.{Bool, true, false, not, _&&_, _||_}
-use mathlib.Core.List.{List, [], _∷_, _++_}
+use mathlib.Core.List.{List, _++_}
 use lib.ListN.{length, drop, replicate}
 use lib.Dec.{ltb, leb}
-use borrow.Author.Tests.{ltb-true, ltb-false, leb-true, leb-false, lt-ltb, le-ltb, le-leb, lt-leb}
-use Rattle.gil.specs.Tree.{Proc, Name}
-use Rattle.gil.specs.Reading.{Read, faulty, read, procedures}
-use Rattle.gil.specs.Names.{Program, Checked, refused, accepted, overLimits, wrongNames, wrongJump, wrongEnd, refusedIf, tested, checkText}
-use Rattle.gil.specs.Rows.{Path, Row, cutFor, steps}
+use borrow.Author.Tests.{ltb-true, ltb-false, leb-true}
+use Rattle.gil.specs.Names.{Program, Checked, refused, accepted, checkText}
+use Rattle.gil.specs.Rows.{Row}
 use Rattle.gil.specs.Explore as Explore
-use Rattle.gil.specs.Explore.{Turn, finishes, goes, forks, Explored, explored, Exploring, stopped, exploring, finish, waitingOn, onTurn, overfull, afterMove, advance, afterCommands}
-use Rattle.gil.specs.Pool.{Ref, Pool, pooled, table, placed}
-use Rattle.gil.specs.Accounts.{explorationAfter}
-use Rattle.gil.specs.Demand3.{of-the-table, ends-at-the-table}
-use Rattle.gil.specs.Theory.Tests.{chosen, no-false}
+use Rattle.gil.specs.Explore.{Explored, explored}
+use Rattle.gil.specs.Pool.{Ref, Pool, table, placed}
+use Rattle.gil.specs.Demand3.{of-the-table}
+use Rattle.gil.specs.Theory.Tests.{no-false}
 use Rattle.gil.specs.Plain.{plainRun}
 use Rattle.gil.specs.Layout.{tableLength, poolLength, answerLength, tableBytes, poolBytes, answerBytes, inputWords}
 use Rattle.gil.specs.Calls as Calls
@@ -26,7 +24,9 @@ use Rattle.code.specs.Accepted.{accepted-well-formed}
 use Rattle.locate.specs.Sound.{Sound}
 use Rattle.locate.specs.Exploring.{exploring-sound}
 use Rattle.demands.specs.Rows.{stands-below}
-use Rattle.demands.specs.Reasons.{TextReason, tooLong, notOfTheForm, overALimit, wrongName, jumpsPast, endsOpen, termsAfter, turnAfter, Overruns, rowOfCut, rowOfCommand, termOfCommand, Overrun, after, Never, Reason, ofBudgets, ofLists, ofText, ofExploring, PlainReason, ExploreReason, PlaceReason, Zero, ARow, First, Refuses, Leaves, RunsAs, ExploresAs}
+use Rattle.demands.specs.Reasons.{TextReason, Overrun, after, Never, Reason, ofBudgets, ofLists, ofText, ofExploring, PlainReason, ExploreReason, PlaceReason, Zero, ARow, First, Refuses, Leaves, RunsAs, ExploresAs}
+use Rattle.demands.specs.Texts.{text-range, TextOutcome, isWrong, isRight, text-outcome}
+use Rattle.demands.specs.Overruns.{table-overruns, overruns-range, overrun-table, overrun-late}
 
 -- The first reason is one only
 first-same : {R : ℕ → Type 0} {m n : ℕ} → First R m → First R n → m ≡ n
@@ -59,203 +59,6 @@ module _ {R Success : ℕ → Type 0} (lowest highest : ℕ) (range : (n : ℕ) 
         otherwise = (λ _. no-reason, λ _. s);
         nothingElse = inl s;
       }
-
--- The text: 3 to 8
-pub text-range : {text : List ℕ} {n : ℕ} → TextReason text n → (3 ≤ n) × (n ≤ 8)
-text-range (tooLong h) = omega arith
-text-range (notOfTheForm e) = omega arith
-text-range (overALimit e t) = omega arith
-text-range (wrongName e t) = omega arith
-text-range (jumpsPast e t) = omega arith
-text-range (endsOpen e t) = omega arith
-
-pub data TextOutcome (text : List ℕ) : Checked → Type 0 where
-  isWrong : {n : ℕ} → First (TextReason text) n → TextOutcome text (refused n)
-  isRight : {p : Program} → ((n : ℕ) → TextReason text n → ⊥) → TextOutcome text (accepted p)
-
--- a test that what was read passes
-passed :
-    {r : Read (List (Proc Name))} {ps qs : List (Proc Name)} {m n : ℕ} (test : List (Proc Name) → Bool) → r ≡ read ps m → test ps ≡ false
-    → r ≡ read qs n → test qs ≡ true → ⊥
-passed {ps = ps} {qs = qs} test e f d t = let same : ps ≡ qs = cc in no-false t (ap test (sym same) ∙ f)
-
--- a reason that the program read from a text does not give
-module _ {text : List ℕ} {ps : List (Proc Name)} {next : ℕ} (is : procedures text ≡ read ps next) where
-  not-4 : TextReason text 4 → ⊥
-  not-4 (notOfTheForm e) = let z : _≡_ {A = ℕ} 0 1 = cc in omega arith
-
-  not-5 : overLimits ps ≡ false → TextReason text 5 → ⊥
-  not-5 f (overALimit e t) = passed overLimits is f e t
-
-  not-6 : wrongNames ps ≡ false → TextReason text 6 → ⊥
-  not-6 f (wrongName e t) = passed wrongNames is f e t
-
-  not-7 : wrongJump ps ≡ false → TextReason text 7 → ⊥
-  not-7 f (jumpsPast e t) = passed wrongJump is f e t
-
-  not-8 : wrongEnd ps ≡ false → TextReason text 8 → ⊥
-  not-8 f (endsOpen e t) = passed wrongEnd is f e t
-
-module _ (text : List ℕ) where
-  -- no reason below number k
-  Below : ℕ → Type 0
-  Below k = (m : ℕ) → m < k → TextReason text m → ⊥
-
-  below-3 : Below 3
-  unfolding Below
-  below-3 m h r = let (f, g) = text-range r in omega arith
-
-  next-below : (k : ℕ) → Below k → (TextReason text k → ⊥) → Below (suc k)
-  unfolding Below
-  next-below k f g m h r = at (ltb m k) refl
-    where
-      at : (b : Bool) → ltb m k ≡ b → ⊥
-      at true e = f m (ltb-true m k e) r
-      at false e = let same : m ≡ k = omega (arith, ltb-false m k e) in g (subst (TextReason text) same r)
-
-  -- each test over the whole text before the next
-  refused-if :
-      (b : Bool) (n : ℕ) (t : Checked) → Below n → (b ≡ true → TextReason text n) → (b ≡ false → TextReason text n → ⊥)
-      → (Below (suc n) → TextOutcome text t) → TextOutcome text (refusedIf b n t)
-  unfolding refusedIf Below
-  refused-if true n t below f g h = isWrong (f refl, below)
-  refused-if false n t below f g h = h (next-below n below (g refl))
-
-  tested-outcome : Below 4 → (r : Read (List (Proc Name))) → procedures text ≡ r → TextOutcome text (tested r)
-  unfolding tested Below
-  tested-outcome below faulty e = isWrong (notOfTheForm e, below)
-  tested-outcome below (read ps next) e =
-      refused-if (overLimits ps) 5 _ (next-below 4 below (not-4 e)) (overALimit e) (not-5 e) λ below-6.
-      refused-if (wrongNames ps) 6 _ below-6 (wrongName e) (not-6 e) λ below-7.
-      refused-if (wrongJump ps) 7 _ below-7 (jumpsPast e) (not-7 e) λ below-8.
-      refused-if (wrongEnd ps) 8 _ below-8 (endsOpen e) (not-8 e) λ below-9.
-      isRight λ n r. let (f, g) = text-range r in below-9 n (omega arith) r
-
-  not-3 : length text ≤ 16384 → TextReason text 3 → ⊥
-  not-3 short (tooLong h) = omega arith
-
-  pub text-outcome : TextOutcome text (checkText text)
-  unfolding checkText Below
-  text-outcome =
-      chosen (TextOutcome text) (ltb 16384 (length text))
-      (λ e. isWrong (tooLong (ltb-true 16384 (length text) e), below-3))
-      (λ e. tested-outcome (next-below 3 below-3 (not-3 (ltb-false 16384 (length text) e))) (procedures text) refl)
-
--- The exploration: 9 and 10
-module _ (p : Program) (budget most : ℕ) where
-  Advances : Exploring Pool Ref → Exploring Pool Ref
-  unfolding pooled
-  Advances x = advance pooled p budget most x
-
-  overruns-stop : {n : ℕ} {x : Exploring Pool Ref} → Overruns p budget most n x → Advances x ≡ stopped n
-  unfolding Advances pooled advance finish waitingOn afterMove overfull termsAfter turnAfter onTurn
-  overruns-stop (rowOfCut {rows = rows} {q = q} h g) = simp (le-leb budget (q .steps) h, le-leb 64 (length rows) g, advance, finish)
-  overruns-stop (rowOfCommand {w = w} {rows = rows} {q = q} h f e g) =
-      simp (lt-leb budget (q .steps) h, le-ltb 2048 (length (termsAfter p w q)) f, e, le-leb 64 (length rows) g, advance, afterMove, finish)
-  overruns-stop (termOfCommand {w = w} {q = q} h f) =
-      simp (lt-leb budget (q .steps) h, lt-ltb 2048 (length (termsAfter p w q)) f, advance, afterMove)
-
-  -- an exploration that has stopped now had stopped before, or overran
-  Stopped : ℕ → Exploring Pool Ref → Type 0
-  Stopped n x = (x ≡ stopped n) ⊎ Overruns p budget most n x
-
-  not-stopped : {A : Type 0} {n : ℕ} {w : Pool} {rows : List (Row Ref)} {qs : List (Path Ref)} → exploring w rows qs ≡ stopped n → A
-  not-stopped e = let z : _≡_ {A = ℕ} 0 1 = cc in absurd (omega arith)
-
-  overran : {m n : ℕ} {x : Exploring Pool Ref} → _≡_ {A = Exploring Pool Ref} (stopped m) (stopped n) → Overruns p budget most m x → Stopped n x
-  unfolding Stopped
-  overran {m} {n} {x} e o = let same : m ≡ n = cc in inr (subst (λ (k : ℕ). Overruns p budget most k x) same o)
-
-  finish-stops :
-      {n : ℕ} {x : Exploring Pool Ref} (w : Pool) (rows : List (Row Ref)) (qs : List (Path Ref)) (r : Row Ref)
-      → (64 ≤ length rows → Overruns p budget most 9 x)
-      → waitingOn qs (finish w rows r) ≡ stopped n
-      → Stopped n x
-  unfolding finish waitingOn
-  finish-stops {n} {x} w rows qs r o =
-      chosen (λ (y : Explored Pool Ref). waitingOn qs y ≡ stopped n → Stopped n x) (leb 64 (length rows))
-      (λ e s. overran s (o (leb-true 64 (length rows) e)))
-      (λ e s. not-stopped s)
-
-  turn-stops :
-      {n : ℕ} {x : Exploring Pool Ref} (w : Pool) (rows : List (Row Ref)) (qs : List (Path Ref)) (t : Turn Ref)
-      → ((r : Row Ref) → t ≡ finishes r → 64 ≤ length rows → Overruns p budget most 9 x)
-      → onTurn w rows qs t ≡ stopped n
-      → Stopped n x
-  unfolding onTurn
-  turn-stops w rows qs (finishes r) o s = finish-stops w rows qs r (o r refl) s
-  turn-stops w rows qs (goes q) o s = not-stopped s
-  turn-stops w rows qs (forks a b) o s = not-stopped s
-
-  advance-stops : {n : ℕ} (x : Exploring Pool Ref) → Advances x ≡ stopped n → Stopped n x
-  unfolding Advances pooled advance afterMove overfull termsAfter turnAfter Stopped
-  advance-stops (stopped m) s = inl s
-  advance-stops (exploring w rows []) s = not-stopped s
-  advance-stops {n} (exploring w rows (q ∷ qs)) s =
-      chosen (λ (y : Exploring Pool Ref). y ≡ stopped n → Stopped n (exploring w rows (q ∷ qs))) (leb budget (q .steps))
-      (λ e. finish-stops w rows qs (cutFor steps q) (rowOfCut (leb-true budget (q .steps) e)))
-      (λ e.
-      let h : q .steps < budget = leb-false budget (q .steps) e in
-      chosen (λ (y : Exploring Pool Ref). y ≡ stopped n → Stopped n (exploring w rows (q ∷ qs))) (ltb 2048 (length (termsAfter p w q)))
-      (λ f t. overran t (termOfCommand h (ltb-true 2048 (length (termsAfter p w q)) f)))
-      (λ f. turn-stops (termsAfter p w q) rows qs (turnAfter p most w q) (λ r. rowOfCommand h (ltb-false 2048 (length (termsAfter p w q)) f))))
-      s
-
-  -- after a stop it stays stopped
-  Exploration : ℕ → Exploring Pool Ref
-  Exploration k = explorationAfter p budget most k
-
-  one-more : (k : ℕ) → Exploration (suc k) ≡ Advances (Exploration k)
-  unfolding Exploration Advances explorationAfter afterCommands pooled
-  one-more k = refl
-
-  stays-on : {n : ℕ} (k : ℕ) → Exploration k ≡ stopped n → Exploration (suc k) ≡ stopped n
-  unfolding Advances advance pooled
-  stays-on k s = one-more k ∙ ap Advances s
-
-  stays : {n : ℕ} (k m : ℕ) → k ≤ m → Exploration k ≡ stopped n → Exploration m ≡ stopped n
-  stays k zero h s = let e : zero ≡ k = omega arith in ap Exploration e ∙ s
-  stays {n} k (suc m) h s = at (leb k m) refl (λ l. stays k m l s)
-    where
-      at : (b : Bool) → leb k m ≡ b → (k ≤ m → Exploration m ≡ stopped n) → Exploration (suc m) ≡ stopped n
-      at true e f = stays-on m (f (leb-true k m e))
-      at false e f = let g : suc m ≡ k = omega (arith, leb-false k m e) in ap Exploration g ∙ s
-
-  -- the table is refused exactly where the exploration overruns
-  refused-from : {n : ℕ} (x : Explored Pool Ref) → waitingOn [] x ≡ stopped n → x ≡ Explore.refused n
-  unfolding waitingOn
-  refused-from {n} (Explore.refused m) s = let e : m ≡ n = cc in ap Explore.refused e
-  refused-from {n} (explored w rows) s = not-stopped s
-
-  pub overruns-table : {n : ℕ} (k : ℕ) → Overruns p budget most n (explorationAfter p budget most k) → table p budget most ≡ Explore.refused n
-  unfolding Exploration
-  overruns-table {n} k o =
-      let s : Exploration (suc k) ≡ stopped n = one-more k ∙ overruns-stop o in
-      let m : ℕ = suc k + 65 * suc budget in
-      refused-from (table p budget most) (sym (ends-at-the-table p budget most m (omega arith)) ∙ stays (suc k) m (omega arith) s)
-
-  stopped-overruns : {n : ℕ} (k : ℕ) → Exploration k ≡ stopped n → (j : ℕ) × Overruns p budget most n (explorationAfter p budget most j)
-  unfolding Exploration Stopped explorationAfter afterCommands pooled
-  stopped-overruns zero s = not-stopped s
-  stopped-overruns {n} (suc k) s = at (advance-stops (Exploration k) (sym (one-more k) ∙ s)) (stopped-overruns k)
-    where
-      at :
-          Stopped n (Exploration k) → (Exploration k ≡ stopped n → (j : ℕ) × Overruns p budget most n (explorationAfter p budget most j))
-          → (j : ℕ) × Overruns p budget most n (explorationAfter p budget most j)
-      at (inl t) f = f t
-      at (inr o) f = (k, o)
-
-  pub table-overruns :
-      {n : ℕ} → table p budget most ≡ Explore.refused n → (k : ℕ) × Overruns p budget most n (explorationAfter p budget most k)
-  unfolding Exploration waitingOn
-  table-overruns {n} e =
-      let m : ℕ = 65 * suc budget in
-      stopped-overruns m (ends-at-the-table p budget most m (omega arith) ∙ ap (waitingOn []) e)
-
-pub overruns-range : {p : Program} {budget most n : ℕ} {x : Exploring Pool Ref} → Overruns p budget most n x → (9 ≤ n) × (n ≤ 10)
-overruns-range (rowOfCut h g) = omega arith
-overruns-range (rowOfCommand h f e g) = omega arith
-overruns-range (termOfCommand h f) = omega arith
 
 -- All reasons of a call
 module _ {b c : Bool} {text : List ℕ} {Late : ℕ → Type 0} where
@@ -305,7 +108,10 @@ module _ (text : List ℕ) {Late : ℕ → Type 0} (late : (n : ℕ) → Late n 
   pub call-outcome : (b c : Bool) → CallOutcome b c text Late (firstOf b c (checkText text))
   unfolding firstOf
   call-outcome true c =
-      early (ofBudgets refl, reason-below 1 (λ h. absurd (omega arith)) (λ h. absurd (omega arith)) (not-text 1 (omega arith)) (not-late 1 (omega arith)))
+      early (
+        ofBudgets refl,
+        reason-below 1 (λ h. absurd (omega arith)) (λ h. absurd (omega arith)) (not-text 1 (omega arith)) (not-late 1 (omega arith)),
+      )
       (omega arith)
   call-outcome false true =
       early (ofLists refl, reason-below 2 (λ _. refl) (λ h. absurd (omega arith)) (not-text 2 (omega arith)) (not-late 2 (omega arith)))
@@ -340,7 +146,9 @@ pub data PlainOutcome (R : ℕ → Type 0) (text inputs : List ℕ) (budget : �
       (record { returns = 0; answer = answerBytes (plainRun p (inputWords inputs) budget) ++ drop answerLength answer })
 
 module _ (text inputs : List ℕ) (budget : ℕ) (answer : List ℕ) {b c : Bool} where
-  plain-on : (t : Checked) → CallOutcome b c text Never t → PlainOutcome (Reason b c text Never) text inputs budget answer (Calls.plainOn inputs budget answer t)
+  plain-on :
+      (t : Checked) → CallOutcome b c text Never t
+      → PlainOutcome (Reason b c text Never) text inputs budget answer (Calls.plainOn inputs budget answer t)
   unfolding Calls.plainOn
   plain-on (refused n) (early f h) = notRun f h
   plain-on (accepted p) (goesOn e f) = run (none f) e
@@ -393,17 +201,6 @@ pub data TablesOutcome
         pool = poolBytes terms ++ drop poolLength w;
       })
 
--- an overrun is the table's own refusal
-overrun-table :
-    {text : List ℕ} {p : Program} {budget most n : ℕ} → checkText text ≡ accepted p → Overrun text budget most n
-    → table p budget most ≡ Explore.refused n
-overrun-table {p = p} {budget} {most} {n} e (after k {p = q} f o) =
-    let same : q ≡ p = cc in
-    subst (λ (r : Program). table r budget most ≡ Explore.refused n) same (overruns-table q budget most k o)
-
-overrun-late : {text : List ℕ} {budget most : ℕ} (n : ℕ) → Overrun text budget most n → (9 ≤ n) × (n ≤ 10)
-overrun-late n (after k e o) = overruns-range o
-
 module _ (success : Pool → List (Row Ref) → ℕ) (text : List ℕ) (budget most : ℕ) (t w : List ℕ) {b c : Bool} where
   tables-from :
       (p : Program) → checkText text ≡ accepted p
@@ -428,7 +225,9 @@ module _ (success : Pool → List (Row Ref) → ℕ) (text : List ℕ) (budget m
       n (omega arith))
       e g
 
-  tables-on : (x : Checked) → CallOutcome b c text (Overrun text budget most) x → TablesOutcome (Reason b c text (Overrun text budget most)) success text budget most t w (Calls.exploreOn success budget most t w x)
+  tables-on :
+      (x : Checked) → CallOutcome b c text (Overrun text budget most) x
+      → TablesOutcome (Reason b c text (Overrun text budget most)) success text budget most t w (Calls.exploreOn success budget most t w x)
   unfolding Calls.exploreOn
   tables-on (refused n) (early f h) = notExplored f h
   tables-on (accepted p) (goesOn e f) = tables-from p e f (table p budget most) refl

@@ -92,7 +92,8 @@ module _
     unfolding Calls.placeCall Calls.placesIn
     place-none =
         place-refuses text noInputs 1024 16 lentTable lentPool .otherwise .0
-        (let e : _ ≡ _ = tables-go (Calls.placesIn noInputs) _ (ap₂ (λ (a b : Bool). a || b) inputs-long tables-long) in rw e (placed-row text 1024 16 budgets-right (inputWords noInputs) reads explores))
+        (let e : _ ≡ _ = tables-go (Calls.placesIn noInputs) _ (ap₂ (λ (a b : Bool). a || b) inputs-long tables-long) in
+        rw e (placed-row text 1024 16 budgets-right (inputWords noInputs) reads explores))
 
     plain-none : (budget : ℕ) → Calls.wrongBudget budget ≡ false → (n : ℕ) → PlainReason text noInputs budget lentAnswer n → ⊥
     unfolding Calls.plainCall Calls.firstOf Calls.plainOn
@@ -124,7 +125,8 @@ module _ (c : FourCalls) where
       ((text inputs : List ℕ) (budget : ℕ) (answer : List ℕ) → 1 ≤ c .plain text inputs budget answer .returns) → Demand1 c → ⊥
   no-plain-refuses-all always d =
       let e : c .plain text8 noInputs 1024 lentAnswer .returns ≡ 0 =
-      d .plain text8 noInputs 1024 lentAnswer .otherwise .1 (plain-none text8 (computed .reads8) (computed .table8) 1024 (unfold Calls.wrongBudget in refl)) in
+      d .plain text8 noInputs 1024 lentAnswer .otherwise .1
+      (plain-none text8 (computed .reads8) (computed .table8) 1024 (unfold Calls.wrongBudget in refl)) in
       omega (arith, always text8 noInputs 1024 lentAnswer)
 
   pub no-explore-refuses-all :
@@ -233,10 +235,11 @@ module _ (c : FourCalls) (d : Demand2 c) where
   pub no-constant-table :
       (T : List ℕ) → c .explore text8 1024 16 lentTable lentPool .table ≡ T → c .explore textA 1024 16 lentTable lentPool .table ≡ T → ⊥
   no-constant-table T e f =
-      let same : tableBytes [] (row8 (ended vanished) 1 ∷ []) ++ drop tableLength lentTable ≡ tableBytes termsA (rowA ∷ rowA′ ∷ []) ++ drop tableLength lentTable =
+      let x : List ℕ = drop tableLength lentTable in
+      let same : tableBytes [] (row8 (ended vanished) 1 ∷ []) ++ x ≡ tableBytes termsA (rowA ∷ rowA′ ∷ []) ++ x =
       sym (table-of text8 (computed .reads8) (computed .table8)) ∙ e ∙ sym f ∙ table-of textA (computed .readsA) (computed .tableA) in
       let z : _≡_ {A = ℕ} 1 2 =
-      sym (row-count sound-8 (drop tableLength lentTable)) ∙ ap (λ (l : List ℕ). wordAt l 0) same ∙ row-count sound-A (drop tableLength lentTable) in
+      sym (row-count sound-8 x) ∙ ap (λ (l : List ℕ). wordAt l 0) same ∙ row-count sound-A x in
       omega arith
 
   -- WRITES NOTHING (demand 2)
@@ -251,11 +254,13 @@ module _ (c : FourCalls) (d : Demand2 c) where
   answer-of budget few =
       ran-as (d .plain text8 noInputs budget lentAnswer (plain-none text8 (computed .reads8) (computed .table8) budget few)) (computed .reads8)
 
-  pub no-plain-writes-nothing : ((text inputs : List ℕ) (budget : ℕ) (answer : List ℕ) → c .plain text inputs budget answer .answer ≡ answer) → ⊥
+  pub no-plain-writes-nothing :
+      ((text inputs : List ℕ) (budget : ℕ) (answer : List ℕ) → c .plain text inputs budget answer .answer ≡ answer) → ⊥
   unfolding Calls.wrongBudget
   no-plain-writes-nothing f =
       let x : List ℕ = drop answerLength lentAnswer in
-      let kept : (budget : ℕ) → Calls.wrongBudget budget ≡ false → (r : Row ⊥) → plainRun program8 (inputWords noInputs) budget ≡ r → answerBytes r ++ x ≡ lentAnswer =
+      let run : ℕ → Row ⊥ = plainRun program8 (inputWords noInputs) in
+      let kept : (budget : ℕ) → Calls.wrongBudget budget ≡ false → (r : Row ⊥) → run budget ≡ r → answerBytes r ++ x ≡ lentAnswer =
       λ budget few r e.
       ap (λ (q : Row ⊥). answerBytes q ++ x) (sym e)
       ∙ ap (λ (a : PlainAnswer). a .answer) (sym (answer-of budget few))
@@ -263,7 +268,8 @@ module _ (c : FourCalls) (d : Demand2 c) where
       let z : _≡_ {A = ℕ} 3 5 =
       sym (vanished-first 1 x)
       ∙ ap (λ (l : List ℕ). getD l 0 0)
-      (kept 7 refl (row8 (ended vanished) 1) (computed .run8 (inputWords noInputs)) ∙ sym (kept 0 refl (row8 (cut steps) 0) (computed .cut8 (inputWords noInputs))))
+      (kept 7 refl (row8 (ended vanished) 1) (computed .run8 (inputWords noInputs))
+      ∙ sym (kept 0 refl (row8 (cut steps) 0) (computed .cut8 (inputWords noInputs))))
       ∙ cut-first x in
       omega arith
 
@@ -421,12 +427,10 @@ module _ (c : FourCalls) (d : Demand3 c) where
       let seven : stepsIn T 0 ≡ 7 = steps-8 7 (steps-read s x y noInputs long-none bytes-none here) in
       let put : putInBytes T (poolBytes [] ++ y) noInputs 0 ≡ answerBytes (row8 (ended vanished) 7) =
       put-read s x y noInputs long-none bytes-none here ∙ ap answerBytes (put-8 7 _) in
-      let ran : c .plain text8 noInputs (stepsIn T 0) lentAnswer ≡ record { returns = 0; answer = putInBytes T (poolBytes [] ++ y) noInputs 0 ++ z } =
-      subst
-      (λ (k : ℕ).
-      c .plain text8 noInputs (stepsIn T k) lentAnswer ≡ record { returns = 0; answer = putInBytes T (poolBytes [] ++ y) noInputs k ++ z })
-      only (o .ran) in
-      let right : Calls.plainCall text8 noInputs 7 lentAnswer ≡ record { returns = 0; answer = answerBytes (plainRun program8 (inputWords noInputs) 7) ++ z } =
+      let answers : List ℕ → PlainAnswer = λ l. record { returns = 0; answer = l ++ z } in
+      let ran : c .plain text8 noInputs (stepsIn T 0) lentAnswer ≡ answers (putInBytes T (poolBytes [] ++ y) noInputs 0) =
+      subst (λ (k : ℕ). c .plain text8 noInputs (stepsIn T k) lentAnswer ≡ answers (putInBytes T (poolBytes [] ++ y) noInputs k)) only (o .ran) in
+      let right : Calls.plainCall text8 noInputs 7 lentAnswer ≡ answers (answerBytes (plainRun program8 (inputWords noInputs) 7)) =
       ran-as (plain-runs text8 noInputs 7 lentAnswer (plain-none text8 (computed .reads8) (computed .table8) 7 refl)) (computed .reads8) in
       let same : answerBytes (row8 (ended vanished) 1) ++ z ≡ answerBytes (row8 (ended vanished) 7) ++ z =
       ap (λ (r : Row ⊥). answerBytes r ++ z) (sym (computed .run8 (inputWords noInputs)))
