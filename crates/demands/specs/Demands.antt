@@ -5,7 +5,7 @@
 -- are the definitions'. Proofs: Texts, Overruns and Refusals (1 and 2), PutIn, Rows and Accounted (3), Determined. Wrong versions that the
 -- demands refuse: WrongVersions. Nothing is assumed: a list of numbers stands for bytes, a number for a budget.
 use Prim.Native.Nat.{ℕ, _≤_}
-use mathlib.Core.Path.{_≡_, sym, _∙_}
+use mathlib.Core.Path.{_≡_, sym, _∙_, subst}
 use mathlib.Core.Bool.{false}
 use mathlib.Core.List.{List, _++_, map}
 use lib.ListN.{length}
@@ -186,3 +186,22 @@ determined c d c1 c2 d1 d2 =
           same-exploration (c1 .place s i n m t w) (d1 .place s i n m t w) (c1 .placeLeaves s i n m t w) (d1 .placeLeaves s i n m t w)
           (c2 .place s i n m t w) (d2 .place s i n m t w);
     }
+
+-- So a version that is, call by call, what the definitions say meets all three demands.
+same-calls : {c d : FourCalls} → Same c d → c ≡ d
+same-calls s = λ j.
+    record {
+      check = λ text. s .check text j;
+      plain = λ text inputs budget answer. s .plain text inputs budget answer j;
+      explore = λ text budget most t w. s .explore text budget most t w j;
+      place = λ text inputs budget most t w. s .place text inputs budget most t w j;
+    }
+
+pub all-demands : (c : FourCalls) → Same c theCalls → Demand1 c × Demand2 c × Demand3 c
+all-demands c s =
+    let e : theCalls ≡ c = sym (same-calls s) in
+    (subst Demand1 e demand-1, subst Demand2 e demand-2, subst Demand3 e demand-3)
+
+-- And a version that meets demands 1 and 2 meets demand 3.
+pub third-follows : (c : FourCalls) → Demand1 c → Demand2 c → Demand3 c
+third-follows c d1 d2 = all-demands c (determined c theCalls d1 d2 demand-1 demand-2) .2
