@@ -1,43 +1,31 @@
 -- Demand 3 over the bytes that the calls leave: an exploration that was not refused has a sound table, and place and the plain run are not
 -- refused either. Assumes nothing.
 use Prim.Native.Nat.{ℕ, _+_, _≤_}
-use mathlib.Core.Path.{_≡_, refl, sym, _∙_, ap, ap₂, subst}
-use mathlib.Core.Bool.{Bool, true, false, not, _&&_, _||_}
+use mathlib.Core.Path.{_≡_, sym, _∙_, ap, ap₂, subst}
+use mathlib.Core.Bool.{Bool, false, not, _||_}
 use mathlib.Core.List.{List, _++_}
 use lib.ListN.{length, drop}
-use lib.Dec.{ltb, leb}
-use borrow.Author.Tests.{ltb-false, leb-true, le-ltb, eq-eqb}
+use borrow.Author.Tests.{le-ltb, eq-eqb}
 use Rattle.gil.specs.Names.{Program, accepted, checkText}
 use Rattle.gil.specs.Rows.{Row}
 use Rattle.gil.specs.Explore.{explored}
-use Rattle.gil.specs.Pool.{Ref, Pool, table, placed}
+use Rattle.gil.specs.Pool.{Ref, Pool, table, valueOf, poolValues, meets, placed}
+use Rattle.gil.specs.Accounts.{putIn, Stands}
 use Rattle.gil.specs.Demand3.{of-the-table}
 use Rattle.gil.specs.Theory.Tests.{no-false}
-use Rattle.gil.specs.Layout.{tableLength, poolLength, answerLength, inputsLength, tableBytes, poolBytes, inputWords}
+use Rattle.gil.specs.Layout.{tableLength, poolLength, answerLength, inputsLength, tableBytes, poolBytes, answerBytes, inputWords}
 use Rattle.gil.specs.Calls as Calls
-use Rattle.gil.specs.Calls.{TableAnswer}
-use Rattle.code.specs.Accepted.{accepted-well-formed}
+use Rattle.gil.specs.Calls.{PlainAnswer, TableAnswer}
+use Rattle.words.specs.Words.{wordAt}
 use Rattle.locate.specs.Sound.{Sound}
 use Rattle.locate.specs.Inputs.{Bytes}
-use Rattle.locate.specs.Exploring.{exploring-sound}
 use Rattle.demands.specs.Reasons.{ofBudgets, ofLists, ofText, ofExploring, PlainReason, ExploreReason, PlaceReason, ExploresAs}
-use Rattle.demands.specs.Refusals.{plain-runs, explore-refuses, explore-explores, place-explores}
+use Rattle.demands.specs.Refusals.{sound-table, plain-runs, explore-refuses, explore-explores, place-explores}
 use Rattle.demands.specs.Determined.{ran-as, explored-as, same-tables}
-use Rattle.demands.specs.FromBytes.{stepsIn, OneRow}
-use Rattle.demands.specs.Rows.{Found, accounted-found}
+use Rattle.demands.specs.FromBytes.{rowsIn, stepsIn, meetsRow, putInBytes, OneRow}
+use Rattle.demands.specs.Rows.{Found, rows-read, meets-read, steps-read, put-read, accounted-found}
 
--- What is known of arguments that are not refused
-budgets-within : (budget most : ℕ) → (Calls.wrongBudgets budget most ≡ true → ⊥) → (budget ≤ 1024) × (most ≤ 16)
-unfolding Calls.wrongBudgets
-budgets-within budget most f = at (leb 1 budget) (leb budget 1024) refl (ltb 16 most) refl f
-  where
-    at :
-        (a b : Bool) → leb budget 1024 ≡ b → (c : Bool) → ltb 16 most ≡ c → (not (a && b) || c ≡ true → ⊥) → (budget ≤ 1024) × (most ≤ 16)
-    at true true d false e g = (leb-true budget 1024 d, ltb-false 16 most e)
-    at true true d true e g = absurd (g refl)
-    at true false d c e g = absurd (g refl)
-    at false b d c e g = absurd (g refl)
-
+-- Arguments that are not refused
 inputs-right : (inputs : List ℕ) → length inputs ≡ inputsLength → Calls.wrongInputs inputs ≡ false
 unfolding Calls.wrongInputs
 inputs-right inputs long = ap not (eq-eqb (length inputs) 64 long)
@@ -85,8 +73,7 @@ module _ (text inputs : List ℕ) (budget most : ℕ) (t w : List ℕ) where
           → table p budget most ≡ explored terms rows
           → Found (tableBytes terms rows ++ extra) (poolBytes terms ++ rest) inputs p (placed (inputWords inputs) terms rows)
       found {p} {terms} {rows} extra rest reads explores =
-          let (small, few) = budgets-within budget most (λ e. none 1 (ofBudgets e)) in
-          let s : Sound terms rows = exploring-sound budget most (accepted-well-formed text p reads) small few explores in
+          let s : Sound terms rows = sound-table text budget most (λ e. none 1 (ofBudgets e)) reads explores in
           let (a, e) = of-the-table p budget most (inputWords inputs) terms rows explores in
           accounted-found s extra rest inputs long bytes p (placed (inputWords inputs) terms rows) a e
 
@@ -100,13 +87,16 @@ module _ (text inputs : List ℕ) (budget most : ℕ) (t w : List ℕ) where
           let n : ℕ = stepsIn (tableBytes terms rows ++ drop tableLength t) (f .row) in
           let place = place-explores text inputs budget most t w (λ k r. none k (place-reason long k r)) in
           let run = plain-runs text inputs n answer (λ k r. none k (plain-reason n answer long (f .few) room k r)) in
+          let ran =
+          ran-as run reads ∙ ap (λ (l : List ℕ). record { returns = 0; answer = l ++ drop answerLength answer }) (f .ran) in
           record {
             row = f .row;
             there = f .there;
             met = f .met;
             only = f .only;
             placed = ap (λ (a : TableAnswer). a .returns) (explored-as place reads explores) ∙ ap (λ (k : ℕ). 256 + k) (f .placed);
-            ran = ran-as run reads ∙ ap (λ (l : List ℕ). record { returns = 0; answer = l ++ drop answerLength answer }) (f .ran);
+            ran = ran;
+            used = ap (λ (a : PlainAnswer). wordAt (a .answer) 12) ran ∙ f .used (drop answerLength answer);
           }
 
       from-tables :
@@ -127,3 +117,27 @@ module _ (text inputs : List ℕ) (budget most : ℕ) (t w : List ℕ) where
       (Calls.placeCall text inputs budget most t w .returns) (λ steps. Calls.plainCall text inputs steps answer)
   one-row answer long bytes room success =
       from-tables answer long bytes room (no-reason success) (explore-explores text budget most t w (no-reason success))
+
+-- what FromBytes reads in the bytes of an accepted text's table and pool
+module _
+    (text : List ℕ) (budget most : ℕ) (right : Calls.wrongBudgets budget most ≡ false) {p : Program} {terms : Pool} {rows : List (Row Ref)}
+    (reads : checkText text ≡ accepted p) (explores : table p budget most ≡ explored terms rows) (surplus rest inputs : List ℕ)
+    (long : length inputs ≡ inputsLength) (bytes : Bytes inputs)
+  where
+    pub bytes-read :
+        (rowsIn (tableBytes terms rows ++ surplus) ≡ length rows)
+        × ((k : ℕ) (r : Row Ref) → Stands k r rows
+        → (meetsRow (tableBytes terms rows ++ surplus) (poolBytes terms ++ rest) inputs k
+        ≡ meets (poolValues (inputWords inputs) terms) (r .conditions))
+        × (stepsIn (tableBytes terms rows ++ surplus) k ≡ r .steps)
+        × (putInBytes (tableBytes terms rows ++ surplus) (poolBytes terms ++ rest) inputs k
+        ≡ answerBytes (putIn (valueOf (poolValues (inputWords inputs) terms)) r)))
+    bytes-read =
+        let s : Sound terms rows = sound-table text budget most (λ e. no-false e right) reads explores in (
+          rows-read s surplus rest inputs long bytes,
+          λ k r stands. (
+            meets-read s surplus rest inputs long bytes stands,
+            steps-read s surplus rest inputs long bytes stands,
+            put-read s surplus rest inputs long bytes stands,
+          ),
+        )

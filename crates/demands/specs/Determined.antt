@@ -16,7 +16,7 @@ use Rattle.gil.specs.Explore.{explored}
 use Rattle.gil.specs.Pool.{Ref, Pool, table}
 use Rattle.gil.specs.Layout.{tableLength, poolLength, answerLength, tableBytes, poolBytes, answerBytes, inputWords}
 use Rattle.gil.specs.Calls.{PlainAnswer, TableAnswer}
-use Rattle.demands.specs.Reasons.{Refuses, Leaves, RunsAs, ExploresAs}
+use Rattle.demands.specs.Reasons.{Zero, Refuses, Leaves, RunsAs, ExploresAs}
 
 -- answers are what they hold
 plain-eq : {a b : PlainAnswer} → a .returns ≡ b .returns → a .answer ≡ b .answer → a ≡ b
@@ -87,7 +87,7 @@ module _ {R Success : ℕ → Type 0} {l h m n : ℕ} (low : 1 ≤ l) (high : h 
           let d : m ≤ 10 = omega arith in
           oneReason c d (sym (g .exactly m c d .1 (f .exactly m c d .0 refl)))
 
-pub same-check : {R : ℕ → Type 0} {m n : ℕ} → Refuses R 3 8 (λ r. r ≡ 0) m → Refuses R 3 8 (λ r. r ≡ 0) n → m ≡ n
+pub same-check : {R : ℕ → Type 0} {m n : ℕ} → Refuses R 3 8 Zero m → Refuses R 3 8 Zero n → m ≡ n
 same-check {R} {m} {n} f g = at (both (omega arith) (omega arith) f g)
   where
     at : Both R m n → m ≡ n
@@ -96,8 +96,8 @@ same-check {R} {m} {n} f g = at (both (omega arith) (omega arith) f g)
 
 module _ {R : ℕ → Type 0} {text inputs : List ℕ} {budget : ℕ} {answer : List ℕ} {a b : PlainAnswer} where
   pub same-plain :
-      Refuses R 1 8 (λ r. r ≡ 0) (a .returns)
-      → Refuses R 1 8 (λ r. r ≡ 0) (b .returns)
+      Refuses R 1 8 Zero (a .returns)
+      → Refuses R 1 8 Zero (b .returns)
       → (1 ≤ a .returns → a .answer ≡ answer)
       → (1 ≤ b .returns → b .answer ≡ answer)
       → (((n : ℕ) → R n → ⊥) → RunsAs text inputs budget answer a)

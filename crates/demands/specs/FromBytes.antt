@@ -78,7 +78,7 @@ unfoldable pub putInBytes : (table pool inputs : List ℕ) → ℕ → List ℕ
 putInBytes table pool inputs k = gather wordBytes (putRow (valuesIn table pool inputs) (rowIn table k))
 
 -- Of a table and a pool, by their bytes: the inputs meet the conditions of exactly one row, place's answer names it, and the plain run given
--- that row's steps as its budget leaves that row's bytes with the inputs put in.
+-- that row's steps as its budget uses all of it, and leaves that row's bytes with the inputs put in.
 pub record OneRow (inputs table pool lentAnswer : List ℕ) (place : ℕ) (run : ℕ → PlainAnswer) : Type 0 where
   pub row : ℕ
   pub there : row < rowsIn table
@@ -87,3 +87,5 @@ pub record OneRow (inputs table pool lentAnswer : List ℕ) (place : ℕ) (run :
   pub placed : place ≡ 256 + row
   pub ran :
       run (stepsIn table row) ≡ record { returns = 0; answer = putInBytes table pool inputs row ++ drop answerLength lentAnswer }
+  -- word 3 of the answer
+  pub used : wordAt (run (stepsIn table row) .answer) 12 ≡ stepsIn table row

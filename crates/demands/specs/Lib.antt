@@ -1,6 +1,8 @@
 pub mod Demands
 pub mod Reasons
 pub mod FromBytes
+pub mod Texts
+pub mod Overruns
 pub mod Refusals
 pub mod Determined
 pub mod PutIn

@@ -2,26 +2,28 @@
 -- says of the definitions. Assumes nothing.
 use Prim.Native.Nat.{ℕ, zero, suc, _+_, _*_, _-_, _/_, _%_, _≤_, _<_}
 use native.Mathlib.Omega.{arith}
-use mathlib.Core.Path.{_≡_, refl, sym, _∙_, ap, ap₂, subst}
-use mathlib.Core.Bool.{Bool, true, false}
+use mathlib.Core.Path.{_≡_, refl, sym, _∙_, ap, ap₂}
+use mathlib.Core.Bool.{true, false}
 use mathlib.Core.List.{List, [], _∷_, _++_, map, append-assoc}
 use mathlib.Core.Option.{Option, none, some}
-use lib.ListN.{length, getD, take, drop, replicate, length-append, length-map, length-replicate}
+use lib.ListN.{length, take, drop, replicate, length-append, length-map}
 use lib.Seq.{take-at, drop-at}
 use lib.Dec.{eqb}
 use Rattle.gil.specs.Names.{gather}
-use Rattle.gil.specs.Values.{Constant, number, boolean, location, Value, const, term, Node, input}
-use Rattle.gil.specs.Machine.{Cell, End, returned, failed, vanished, error}
-use Rattle.gil.specs.Rows.{Condition, Reason, steps, branches, Outcome, ended, cut, Row}
+use Rattle.gil.specs.Values.{Constant, number, boolean, location, Value, const, term}
+use Rattle.gil.specs.Machine.{Cell, returned, failed, vanished, error}
+use Rattle.gil.specs.Rows.{steps, branches, Outcome, ended, cut, Row}
 use Rattle.gil.specs.Pool.{Ref, numberTerm, booleanTerm, placeIn, Pool, valueOf}
 use Rattle.gil.specs.Accounts as Accounts
-use Rattle.gil.specs.Layout.{wordBytes, room, bit, constantWords, valueWords, variableWords, cellWords, conditionWords, endWords, outcomeWords, headWords, rowWords, reasonCode, refTag, noNumber}
+use Rattle.gil.specs.Layout.{wordBytes, rowBytes, answerBytes, room, bit, constantWords, valueWords, variableWords, cellWords, conditionWords, endWords, outcomeWords, headWords, rowWords, reasonCode, refTag, noNumber}
 use Rattle.code.specs.WellFormed as WellFormed
 use Rattle.code.specs.WellFormed.{Each}
-use Rattle.values.specs.Packed.{if?, truthWord}
+use Rattle.words.specs.Words.{wordAt}
+use Rattle.words.specs.Reads.{wordAt-bytes}
+use Rattle.values.specs.Packed.{truthWord}
 use Rattle.values.specs.Laws.{ConstAs, aNumber, aTruth, aLocation}
-use Rattle.locate.specs.Sound.{RefFits, ValueFits, fitsNumber, fitsTruth, fitsLocation, fitsTerm, VariableFits, unbound, bound, CellFits, EndFits, fitsReturned, fitsFailed, fitsVanished, fitsError, OutcomeFits, fitsEnded, fitsCut, RowFits}
-use Rattle.locate.specs.Terms.{TermAs, ValuesAs, tagOf, wordOf, two-words}
+use Rattle.locate.specs.Sound.{ValueFits, fitsNumber, fitsTruth, fitsLocation, fitsTerm, VariableFits, unbound, bound, CellFits, fitsReturned, fitsFailed, fitsVanished, fitsError, OutcomeFits, fitsEnded, fitsCut, RowFits}
+use Rattle.locate.specs.Terms.{gather-append, length-words, ValuesAs, tagOf, wordOf, two-words}
 use Rattle.locate.specs.Laws.{length-room, length-parts, length-variable, length-cell, length-condition, length-head}
 use Rattle.demands.specs.FromBytes.{putTag, putWord, putVariables, putCells, putOutcome, putHead, putRow}
 
@@ -132,18 +134,20 @@ module _ {w : Pool} {cs : List Constant} {vs : List ℕ} (values : ValuesAs w cs
       ap (λ (l : List ℕ). putCells vs (c .location ∷ c .property ∷ l)) (two-words (c .value) rest)
       ∙ ap (λ (l : List ℕ). c .location ∷ c .property ∷ (l ++ putCells vs rest)) (sym (put-value (f .value)))
 
+  -- an outcome that is no cut
+  no-cut : (o tag x : ℕ) → eqb o 5 ≡ false → putOutcome vs o tag x ≡ putTag vs tag x ∷ putWord vs tag x ∷ []
+  unfolding putOutcome
+  no-cut o tag x e = simp (e, putOutcome)
+
   -- the outcome's three words and what stands behind them in the heading; first where it is a value
   valued-put :
       (o : ℕ) → eqb o 5 ≡ false → {u : Value Ref} → ValueFits w u → (s p c i n v m : ℕ)
       → putHead vs (room 16 (o ∷ (valueWords refTag placeIn u ++ (s ∷ p ∷ c ∷ i ∷ n ∷ v ∷ m ∷ []))))
       ≡ room 16 (o ∷ (constantWords (valueOf cs u) ++ (s ∷ p ∷ c ∷ i ∷ 0 ∷ v ∷ m ∷ [])))
-  unfolding putHead putOutcome room
+  unfolding putHead room
   valued-put o e {u} f s p c i n v m =
       ap (λ (l : List ℕ). putHead vs (room 16 (o ∷ l))) (two-words u (s ∷ p ∷ c ∷ i ∷ n ∷ v ∷ m ∷ []))
-      ∙ ap
-      (λ (b : Bool).
-      o ∷ (if? b (0 ∷ 1 ∷ []) (putTag vs (tagOf u) (wordOf u) ∷ putWord vs (tagOf u) (wordOf u) ∷ []) ++ (s ∷ p ∷ c ∷ i ∷ 0 ∷ v ∷ m ∷ replicate 6 0)))
-      e
+      ∙ ap (λ (l : List ℕ). o ∷ (l ++ (s ∷ p ∷ c ∷ i ∷ 0 ∷ v ∷ m ∷ replicate 6 0))) (no-cut o (tagOf u) (wordOf u) e)
       ∙ ap (λ (l : List ℕ). room 16 (o ∷ (l ++ (s ∷ p ∷ c ∷ i ∷ 0 ∷ v ∷ m ∷ [])))) (sym (put-value f))
 
   head-put :
@@ -207,3 +211,34 @@ module _ {w : Pool} {cs : List Constant} {vs : List ℕ} (values : ValuesAs w cs
       (variables-zeros vs) 2 32 length-variable length-known (f .variables .variables))
       (put-room (putCells vs) (cellWords refTag placeIn) (cellWords noNumber noNumber) (Accounts.putCell value) cell-put
       (cells-zeros vs) 4 128 length-cell length-kept (f .cells .cells))
+
+-- word 3 of an answer is its steps
+length-known-outcome : (o : Outcome ⊥) → length (outcomeWords noNumber noNumber o) ≡ 3
+unfolding outcomeWords endWords
+length-known-outcome (ended (returned v)) = ap suc (length-constant v)
+length-known-outcome (ended (failed v)) = ap suc (length-constant v)
+length-known-outcome (ended vanished) = refl
+length-known-outcome (ended (error n)) = refl
+length-known-outcome (cut why) = refl
+
+regroup : (o s z c v d y : List ℕ) → ((o ++ s) ++ z) ++ c ++ v ++ d ++ y ≡ o ++ (s ++ (z ++ (c ++ (v ++ (d ++ y)))))
+regroup o s z c v d y = simp append-assoc
+
+steps-among :
+    (o : List ℕ) (s : ℕ) (m z c v d y x : List ℕ)
+    → gather wordBytes (((o ++ (s ∷ m)) ++ z) ++ c ++ v ++ d ++ y) ++ x
+    ≡ gather wordBytes o ++ (wordBytes s ++ (gather wordBytes (m ++ (z ++ (c ++ (v ++ (d ++ y))))) ++ x))
+unfolding gather
+steps-among o s m z c v d y x =
+    ap (λ (l : List ℕ). gather wordBytes l ++ x) (regroup o (s ∷ m) z c v d y)
+    ∙ ap (λ (l : List ℕ). l ++ x) (gather-append wordBytes o (s ∷ (m ++ (z ++ (c ++ (v ++ (d ++ y)))))))
+    ∙ simp append-assoc
+
+pub answer-steps : (q : Row ⊥) → q .steps < 4294967296 → (x : List ℕ) → wordAt (answerBytes q ++ x) 12 ≡ q .steps
+unfolding answerBytes rowBytes rowWords headWords room
+answer-steps q h x =
+    let o : List ℕ = outcomeWords noNumber noNumber (q .outcome) in
+    let twelve : 12 ≡ length (gather wordBytes o) = sym (length-words o ∙ ap (λ (n : ℕ). 4 * n) (length-known-outcome (q .outcome))) in
+    ap (λ (l : List ℕ). wordAt l 12) (steps-among o (q .steps) _ _ _ _ _ _ x)
+    ∙ ap (wordAt _) twelve
+    ∙ wordAt-bytes (gather wordBytes o) _ (q .steps) h

@@ -1,6 +1,6 @@
 -- "Numbered refusals, in the order tested": the reasons for which a call refuses, each a constructor with its number, in document 01's
 -- words; and what it is to refuse by the first of them that holds. Definitions only. Assumes nothing.
-use Prim.Native.Nat.{ℕ, suc, _≤_, _<_}
+use Prim.Native.Nat.{ℕ, _≤_, _<_}
 use mathlib.Core.Path.{_≡_}
 use mathlib.Core.Logic.{_↔_, _⊎_}
 use mathlib.Core.Bool.{Bool, true, _||_}
@@ -77,14 +77,17 @@ pub data Overrun (text : List ℕ) (budget most : ℕ) : ℕ → Type 0 where
 -- the plain run never explores
 pub data Never : ℕ → Type 0 where
 
--- 1 to 10, of a call whose budgets and lists are wrong or not
+-- 1 to 10, of a call whose budgets or lists are wrong, or not
 pub data Reason (budgets lists : Bool) (text : List ℕ) (Late : ℕ → Type 0) : ℕ → Type 0 where
+  -- "explore/place: steps not 1 to 1,024, or branches above 16; plain run: steps above 1,024"
   ofBudgets : budgets ≡ true → Reason budgets lists text Late 1
+  -- "a lent buffer is shorter than the call needs, or the input list is not sixteen long"
   ofLists : lists ≡ true → Reason budgets lists text Late 2
+  -- 3 to 8, and 9 and 10
   ofText : {n : ℕ} → TextReason text n → Reason budgets lists text Late n
   ofExploring : {n : ℕ} → Late n → Reason budgets lists text Late n
 
--- the reasons of each call
+-- the reasons of each call; the tests of 1 and 2 are those of Calls
 abbrev pub CheckReason : List ℕ → ℕ → Type 0
 CheckReason text = TextReason text
 
@@ -100,6 +103,13 @@ abbrev pub PlaceReason : (text inputs : List ℕ) (budget most : ℕ) (table poo
 PlaceReason text inputs budget most table pool =
     Reason (Calls.wrongBudgets budget most) (Calls.wrongInputs inputs || Calls.shortTables table pool) text (Overrun text budget most)
 
+-- what the calls return where they do not refuse: 0, and place 256 more than the row's number, 0 to 63
+abbrev pub Zero : ℕ → Type 0
+Zero r = r ≡ 0
+
+abbrev pub ARow : ℕ → Type 0
+ARow r = (256 ≤ r) × (r < 320)
+
 -- the first reason that holds
 abbrev pub First : (ℕ → Type 0) → ℕ → Type 0
 First R n = R n × ((m : ℕ) → m < n → R m → ⊥)
@@ -107,8 +117,11 @@ First R n = R n × ((m : ℕ) → m < n → R m → ⊥)
 -- "refuses by the numbered reason that comes first in our document's order, and only where one holds": a call with the reasons `R`, which
 -- may refuse by `lowest` to `highest`
 pub record Refuses (R : ℕ → Type 0) (lowest highest : ℕ) (Success : ℕ → Type 0) (returns : ℕ) : Type 0 where
+  -- it returns n exactly if n is the first reason that holds
   pub exactly : (n : ℕ) → 1 ≤ n → n ≤ 10 → (returns ≡ n) ↔ First R n
+  -- it succeeds exactly if none holds
   pub otherwise : Success returns ↔ ((n : ℕ) → R n → ⊥)
+  -- and there is nothing else that it returns
   pub nothingElse : Success returns ⊎ ((lowest ≤ returns) × (returns ≤ highest))
 
 -- "Refusals 1 to 8 leave lent memory untouched; 9 and 10 leave table and pool zero": the needed part of them; "a buffer longer than needed

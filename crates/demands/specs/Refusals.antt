@@ -1,29 +1,32 @@
--- The definitions of the calls refuse by the first reason that holds: the proofs behind demands 1 and 2. Assumes nothing.
-use Prim.Native.Nat.{ℕ, zero, suc, _+_, _*_, _≤_, _<_}
+-- The definitions of the calls refuse by the first reason that holds, and come to the definitions' answers where none does: the proofs
+-- behind demands 1 and 2. Assumes nothing.
+use Prim.Native.Nat.{ℕ, zero, suc, _+_, _≤_, _<_}
 use native.Mathlib.Omega.{arith}
-use mathlib.Core.Path.{_≡_, refl, sym, _∙_, ap, subst}
-use mathlib.Core.Logic.{_↔_, _⊎_, inl, inr}
-use mathlib.Core.Bool.{Bool, true, false, _||_}
-use mathlib.Core.List.{List, [], _∷_, _++_}
+use mathlib.Core.Path.{_≡_, refl, sym, _∙_, subst}
+use mathlib.Core.Logic.{inl, inr}
+use mathlib.Core.Bool.{Bool, true, false, not, _&&_, _||_}
+use mathlib.Core.List.{List, _++_}
 use lib.ListN.{length, drop, replicate}
 use lib.Dec.{ltb, leb}
-use borrow.Author.Tests.{ltb-true, ltb-false, leb-true, leb-false, lt-ltb, le-ltb, le-leb, lt-leb}
-use Rattle.gil.specs.Tree.{Proc, Name}
-use Rattle.gil.specs.Reading.{Read, faulty, read, procedures}
-use Rattle.gil.specs.Names.{Program, Checked, refused, accepted, overLimits, wrongNames, wrongJump, wrongEnd, refusedIf, numberProgram, tested, checkText}
-use Rattle.gil.specs.Machine.{move}
-use Rattle.gil.specs.Rows.{Path, Row, cutFor, steps}
+use borrow.Author.Tests.{ltb-true, ltb-false, leb-true}
+use Rattle.gil.specs.Names.{Program, Checked, refused, accepted, checkText}
+use Rattle.gil.specs.Rows.{Row}
 use Rattle.gil.specs.Explore as Explore
-use Rattle.gil.specs.Explore.{Turn, finishes, goes, forks, Explored, explored, Exploring, stopped, exploring, finish, waitingOn, onTurn, overfull, turnIn, afterMove, advance, afterCommands}
-use Rattle.gil.specs.Pool.{Ref, Pool, pooled, table}
-use Rattle.gil.specs.Accounts.{explorationAfter}
-use Rattle.gil.specs.Demand3.{ends-at-the-table}
-use Rattle.gil.specs.Theory.Tests.{chosen, no-false}
+use Rattle.gil.specs.Explore.{Explored, explored}
+use Rattle.gil.specs.Pool.{Ref, Pool, table, placed}
+use Rattle.gil.specs.Demand3.{of-the-table}
+use Rattle.gil.specs.Theory.Tests.{no-false}
 use Rattle.gil.specs.Plain.{plainRun}
 use Rattle.gil.specs.Layout.{tableLength, poolLength, answerLength, tableBytes, poolBytes, answerBytes, inputWords}
 use Rattle.gil.specs.Calls as Calls
 use Rattle.gil.specs.Calls.{firstOf, TableAnswer, PlainAnswer}
-use Rattle.demands.specs.Reasons.{TextReason, tooLong, notOfTheForm, overALimit, wrongName, jumpsPast, endsOpen, termsAfter, turnAfter, Overruns, rowOfCut, rowOfCommand, termOfCommand, Overrun, after, Never, Reason, ofBudgets, ofLists, ofText, ofExploring, PlainReason, ExploreReason, PlaceReason, First, Refuses, Leaves, RunsAs, ExploresAs}
+use Rattle.code.specs.Accepted.{accepted-well-formed}
+use Rattle.locate.specs.Sound.{Sound}
+use Rattle.locate.specs.Exploring.{exploring-sound}
+use Rattle.demands.specs.Rows.{stands-below}
+use Rattle.demands.specs.Reasons.{TextReason, Overrun, after, Never, Reason, ofBudgets, ofLists, ofText, ofExploring, PlainReason, ExploreReason, PlaceReason, Zero, ARow, First, Refuses, Leaves, RunsAs, ExploresAs}
+use Rattle.demands.specs.Texts.{text-range, TextOutcome, isWrong, isRight, text-outcome}
+use Rattle.demands.specs.Overruns.{table-overruns, overruns-range, overrun-table, overrun-late}
 
 -- The first reason is one only
 first-same : {R : ℕ → Type 0} {m n : ℕ} → First R m → First R n → m ≡ n
@@ -56,213 +59,6 @@ module _ {R Success : ℕ → Type 0} (lowest highest : ℕ) (range : (n : ℕ) 
         otherwise = (λ _. no-reason, λ _. s);
         nothingElse = inl s;
       }
-
--- The text: 3 to 8
-pub text-range : {text : List ℕ} {n : ℕ} → TextReason text n → (3 ≤ n) × (n ≤ 8)
-text-range (tooLong h) = omega arith
-text-range (notOfTheForm e) = omega arith
-text-range (overALimit e t) = omega arith
-text-range (wrongName e t) = omega arith
-text-range (jumpsPast e t) = omega arith
-text-range (endsOpen e t) = omega arith
-
-pub data TextOutcome (text : List ℕ) : Checked → Type 0 where
-  isWrong : {n : ℕ} → First (TextReason text) n → TextOutcome text (refused n)
-  isRight : {p : Program} → ((n : ℕ) → TextReason text n → ⊥) → TextOutcome text (accepted p)
-
-module _ (text : List ℕ) where
-  -- a test that the program read from the text does not pass
-  Passes : (List (Proc Name) → Bool) → Type 0
-  Passes test = (ps : List (Proc Name)) (next : ℕ) → procedures text ≡ read ps next → test ps ≡ true → ⊥
-
-  passes :
-      (test : List (Proc Name) → Bool) (ps : List (Proc Name)) (next : ℕ) → procedures text ≡ read ps next → test ps ≡ false → Passes test
-  unfolding Passes
-  passes test ps next e t qs next′ f u = let same : ps ≡ qs = cc in no-false u (ap test (sym same) ∙ t)
-
-  -- no reason before number k, where the tests before it are passed
-  text-below :
-      (k : ℕ)
-      → (3 < k → length text ≤ 16384)
-      → (4 < k → procedures text ≡ faulty → ⊥)
-      → (5 < k → Passes overLimits)
-      → (6 < k → Passes wrongNames)
-      → (7 < k → Passes wrongJump)
-      → (8 < k → Passes wrongEnd)
-      → (m : ℕ)
-      → m < k
-      → TextReason text m
-      → ⊥
-  unfolding Passes
-  text-below k a b c d f g m h (tooLong l) = let s : _ ≤ _ = a h in omega arith
-  text-below k a b c d f g m h (notOfTheForm e) = b h e
-  text-below k a b c d f g m h (overALimit {ps} {next} e t) = c h ps next e t
-  text-below k a b c d f g m h (wrongName {ps} {next} e t) = d h ps next e t
-  text-below k a b c d f g m h (jumpsPast {ps} {next} e t) = f h ps next e t
-  text-below k a b c d f g m h (endsOpen {ps} {next} e t) = g h ps next e t
-
-  refused-if :
-      (b : Bool) (n : ℕ) (t : Checked) → (b ≡ true → TextOutcome text (refused n)) → (b ≡ false → TextOutcome text t)
-      → TextOutcome text (refusedIf b n t)
-  unfolding refusedIf
-  refused-if true n t f g = f refl
-  refused-if false n t f g = g refl
-
-  not-yet : {A : Type 0} (j k : ℕ) → k ≤ j → j < k → A
-  not-yet j k h l = absurd (omega arith)
-
-  not-faulty : {ps : List (Proc Name)} {next : ℕ} → procedures text ≡ read ps next → procedures text ≡ faulty → ⊥
-  not-faulty e f = let z : _≡_ {A = ℕ} 0 1 = cc in omega arith
-
-  tested-outcome : length text ≤ 16384 → (r : Read (List (Proc Name))) → procedures text ≡ r → TextOutcome text (tested r)
-  unfolding tested
-  tested-outcome short faulty e =
-      isWrong (
-        notOfTheForm e,
-        text-below 4 (λ _. short) (not-yet 4 4 (omega arith)) (not-yet 5 4 (omega arith)) (not-yet 6 4 (omega arith)) (not-yet 7 4 (omega arith)) (not-yet 8 4 (omega arith)),
-      )
-  tested-outcome short (read ps next) e =
-      refused-if (overLimits ps) 5 _
-      (λ t5. isWrong (overALimit e t5, text-below 5 (λ _. short) (λ _. not-faulty e) (not-yet 5 5 (omega arith)) (not-yet 6 5 (omega arith)) (not-yet 7 5 (omega arith)) (not-yet 8 5 (omega arith))))
-      (λ t5.
-      let p5 : Passes overLimits = passes overLimits ps next e t5 in
-      refused-if (wrongNames ps) 6 _
-      (λ t6. isWrong (wrongName e t6, text-below 6 (λ _. short) (λ _. not-faulty e) (λ _. p5) (not-yet 6 6 (omega arith)) (not-yet 7 6 (omega arith)) (not-yet 8 6 (omega arith))))
-      (λ t6.
-      let p6 : Passes wrongNames = passes wrongNames ps next e t6 in
-      refused-if (wrongJump ps) 7 _
-      (λ t7. isWrong (jumpsPast e t7, text-below 7 (λ _. short) (λ _. not-faulty e) (λ _. p5) (λ _. p6) (not-yet 7 7 (omega arith)) (not-yet 8 7 (omega arith))))
-      (λ t7.
-      let p7 : Passes wrongJump = passes wrongJump ps next e t7 in
-      refused-if (wrongEnd ps) 8 _
-      (λ t8. isWrong (endsOpen e t8, text-below 8 (λ _. short) (λ _. not-faulty e) (λ _. p5) (λ _. p6) (λ _. p7) (not-yet 8 8 (omega arith))))
-      (λ t8.
-      isRight
-      (λ n r.
-      text-below (suc n) (λ _. short) (λ _. not-faulty e) (λ _. p5) (λ _. p6) (λ _. p7) (λ _. passes wrongEnd ps next e t8) n (omega arith) r)))))
-
-  pub text-outcome : TextOutcome text (checkText text)
-  unfolding checkText
-  text-outcome =
-      chosen (TextOutcome text) (ltb 16384 (length text))
-      (λ e. isWrong (tooLong (ltb-true 16384 (length text) e), text-below 3 (not-yet 3 3 (omega arith)) (not-yet 4 3 (omega arith)) (not-yet 5 3 (omega arith)) (not-yet 6 3 (omega arith)) (not-yet 7 3 (omega arith)) (not-yet 8 3 (omega arith))))
-      (λ e. tested-outcome (ltb-false 16384 (length text) e) (procedures text) refl)
-
--- The exploration: 9 and 10
-module _ (p : Program) (budget most : ℕ) where
-  Advances : Exploring Pool Ref → Exploring Pool Ref
-  unfolding pooled
-  Advances x = advance pooled p budget most x
-
-  overruns-stop : {n : ℕ} {x : Exploring Pool Ref} → Overruns p budget most n x → Advances x ≡ stopped n
-  unfolding Advances pooled advance finish waitingOn afterMove overfull termsAfter turnAfter onTurn
-  overruns-stop (rowOfCut {rows = rows} {q = q} h g) = simp (le-leb budget (q .steps) h, le-leb 64 (length rows) g, advance, finish)
-  overruns-stop (rowOfCommand {w = w} {rows = rows} {q = q} h f e g) =
-      simp (lt-leb budget (q .steps) h, le-ltb 2048 (length (termsAfter p w q)) f, e, le-leb 64 (length rows) g, advance, afterMove, finish)
-  overruns-stop (termOfCommand {w = w} {q = q} h f) =
-      simp (lt-leb budget (q .steps) h, lt-ltb 2048 (length (termsAfter p w q)) f, advance, afterMove)
-
-  -- an exploration that has stopped now had stopped before, or overran
-  Stopped : ℕ → Exploring Pool Ref → Type 0
-  Stopped n x = (x ≡ stopped n) ⊎ Overruns p budget most n x
-
-  not-stopped : {A : Type 0} {n : ℕ} {w : Pool} {rows : List (Row Ref)} {qs : List (Path Ref)} → exploring w rows qs ≡ stopped n → A
-  not-stopped e = let z : _≡_ {A = ℕ} 0 1 = cc in absurd (omega arith)
-
-  overran : {m n : ℕ} {x : Exploring Pool Ref} → _≡_ {A = Exploring Pool Ref} (stopped m) (stopped n) → Overruns p budget most m x → Stopped n x
-  unfolding Stopped
-  overran {m} {n} {x} e o = let same : m ≡ n = cc in inr (subst (λ (k : ℕ). Overruns p budget most k x) same o)
-
-  finish-stops :
-      {n : ℕ} {x : Exploring Pool Ref} (w : Pool) (rows : List (Row Ref)) (qs : List (Path Ref)) (r : Row Ref)
-      → (64 ≤ length rows → Overruns p budget most 9 x)
-      → waitingOn qs (finish w rows r) ≡ stopped n
-      → Stopped n x
-  unfolding finish waitingOn
-  finish-stops {n} {x} w rows qs r o =
-      chosen (λ (y : Explored Pool Ref). waitingOn qs y ≡ stopped n → Stopped n x) (leb 64 (length rows))
-      (λ e s. overran s (o (leb-true 64 (length rows) e)))
-      (λ e s. not-stopped s)
-
-  turn-stops :
-      {n : ℕ} {x : Exploring Pool Ref} (w : Pool) (rows : List (Row Ref)) (qs : List (Path Ref)) (t : Turn Ref)
-      → ((r : Row Ref) → t ≡ finishes r → 64 ≤ length rows → Overruns p budget most 9 x)
-      → onTurn w rows qs t ≡ stopped n
-      → Stopped n x
-  unfolding onTurn
-  turn-stops w rows qs (finishes r) o s = finish-stops w rows qs r (o r refl) s
-  turn-stops w rows qs (goes q) o s = not-stopped s
-  turn-stops w rows qs (forks a b) o s = not-stopped s
-
-  advance-stops : {n : ℕ} (x : Exploring Pool Ref) → Advances x ≡ stopped n → Stopped n x
-  unfolding Advances pooled advance afterMove overfull termsAfter turnAfter Stopped
-  advance-stops (stopped m) s = inl s
-  advance-stops (exploring w rows []) s = not-stopped s
-  advance-stops {n} (exploring w rows (q ∷ qs)) s =
-      chosen (λ (y : Exploring Pool Ref). y ≡ stopped n → Stopped n (exploring w rows (q ∷ qs))) (leb budget (q .steps))
-      (λ e. finish-stops w rows qs (cutFor steps q) (rowOfCut (leb-true budget (q .steps) e)))
-      (λ e.
-      let h : q .steps < budget = leb-false budget (q .steps) e in
-      chosen (λ (y : Exploring Pool Ref). y ≡ stopped n → Stopped n (exploring w rows (q ∷ qs))) (ltb 2048 (length (termsAfter p w q)))
-      (λ f t. overran t (termOfCommand h (ltb-true 2048 (length (termsAfter p w q)) f)))
-      (λ f. turn-stops (termsAfter p w q) rows qs (turnAfter p most w q) (λ r. rowOfCommand h (ltb-false 2048 (length (termsAfter p w q)) f))))
-      s
-
-  -- after a stop it stays stopped
-  Exploration : ℕ → Exploring Pool Ref
-  Exploration k = explorationAfter p budget most k
-
-  one-more : (k : ℕ) → Exploration (suc k) ≡ Advances (Exploration k)
-  unfolding Exploration Advances explorationAfter afterCommands pooled
-  one-more k = refl
-
-  stays-on : {n : ℕ} (k : ℕ) → Exploration k ≡ stopped n → Exploration (suc k) ≡ stopped n
-  unfolding Advances advance pooled
-  stays-on k s = one-more k ∙ ap Advances s
-
-  stays : {n : ℕ} (k m : ℕ) → k ≤ m → Exploration k ≡ stopped n → Exploration m ≡ stopped n
-  stays k zero h s = let e : zero ≡ k = omega arith in ap Exploration e ∙ s
-  stays {n} k (suc m) h s = at (leb k m) refl (λ l. stays k m l s)
-    where
-      at : (b : Bool) → leb k m ≡ b → (k ≤ m → Exploration m ≡ stopped n) → Exploration (suc m) ≡ stopped n
-      at true e f = stays-on m (f (leb-true k m e))
-      at false e f = let g : suc m ≡ k = omega (arith, leb-false k m e) in ap Exploration g ∙ s
-
-  -- the table is refused exactly where the exploration overruns
-  refused-from : {n : ℕ} (x : Explored Pool Ref) → waitingOn [] x ≡ stopped n → x ≡ Explore.refused n
-  unfolding waitingOn
-  refused-from {n} (Explore.refused m) s = let e : m ≡ n = cc in ap Explore.refused e
-  refused-from {n} (explored w rows) s = not-stopped s
-
-  pub overruns-table : {n : ℕ} (k : ℕ) → Overruns p budget most n (explorationAfter p budget most k) → table p budget most ≡ Explore.refused n
-  unfolding Exploration
-  overruns-table {n} k o =
-      let s : Exploration (suc k) ≡ stopped n = one-more k ∙ overruns-stop o in
-      let m : ℕ = suc k + 65 * suc budget in
-      refused-from (table p budget most) (sym (ends-at-the-table p budget most m (omega arith)) ∙ stays (suc k) m (omega arith) s)
-
-  stopped-overruns : {n : ℕ} (k : ℕ) → Exploration k ≡ stopped n → (j : ℕ) × Overruns p budget most n (explorationAfter p budget most j)
-  unfolding Exploration Stopped explorationAfter afterCommands pooled
-  stopped-overruns zero s = not-stopped s
-  stopped-overruns {n} (suc k) s = at (advance-stops (Exploration k) (sym (one-more k) ∙ s)) (stopped-overruns k)
-    where
-      at :
-          Stopped n (Exploration k) → (Exploration k ≡ stopped n → (j : ℕ) × Overruns p budget most n (explorationAfter p budget most j))
-          → (j : ℕ) × Overruns p budget most n (explorationAfter p budget most j)
-      at (inl t) f = f t
-      at (inr o) f = (k, o)
-
-  pub table-overruns :
-      {n : ℕ} → table p budget most ≡ Explore.refused n → (k : ℕ) × Overruns p budget most n (explorationAfter p budget most k)
-  unfolding Exploration waitingOn
-  table-overruns {n} e =
-      let m : ℕ = 65 * suc budget in
-      stopped-overruns m (ends-at-the-table p budget most m (omega arith) ∙ ap (waitingOn []) e)
-
-pub overruns-range : {p : Program} {budget most n : ℕ} {x : Exploring Pool Ref} → Overruns p budget most n x → (9 ≤ n) × (n ≤ 10)
-overruns-range (rowOfCut h g) = omega arith
-overruns-range (rowOfCommand h f e g) = omega arith
-overruns-range (termOfCommand h f) = omega arith
 
 -- All reasons of a call
 module _ {b c : Bool} {text : List ℕ} {Late : ℕ → Type 0} where
@@ -312,7 +108,10 @@ module _ (text : List ℕ) {Late : ℕ → Type 0} (late : (n : ℕ) → Late n 
   pub call-outcome : (b c : Bool) → CallOutcome b c text Late (firstOf b c (checkText text))
   unfolding firstOf
   call-outcome true c =
-      early (ofBudgets refl, reason-below 1 (λ h. absurd (omega arith)) (λ h. absurd (omega arith)) (not-text 1 (omega arith)) (not-late 1 (omega arith)))
+      early (
+        ofBudgets refl,
+        reason-below 1 (λ h. absurd (omega arith)) (λ h. absurd (omega arith)) (not-text 1 (omega arith)) (not-late 1 (omega arith)),
+      )
       (omega arith)
   call-outcome false true =
       early (ofLists refl, reason-below 2 (λ _. refl) (λ h. absurd (omega arith)) (not-text 2 (omega arith)) (not-late 2 (omega arith)))
@@ -328,12 +127,12 @@ none : {b c : Bool} {text : List ℕ} → ((k : ℕ) → ((m : ℕ) → m < k �
 none f n = f (suc n) (λ m _. never) n (omega arith)
 
 -- check
-check-from : {text : List ℕ} {t : Checked} → TextOutcome text t → Outcome (TextReason text) (λ r. r ≡ 0) (Calls.textAnswer t)
+check-from : {text : List ℕ} {t : Checked} → TextOutcome text t → Outcome (TextReason text) Zero (Calls.textAnswer t)
 unfolding Calls.textAnswer
 check-from (isWrong f) = refusal f
 check-from (isRight f) = success f refl
 
-pub check-refuses : (text : List ℕ) → Refuses (TextReason text) 3 8 (λ r. r ≡ 0) (Calls.checkCall text)
+pub check-refuses : (text : List ℕ) → Refuses (TextReason text) 3 8 Zero (Calls.checkCall text)
 unfolding Calls.checkCall
 check-refuses text =
     refuses 3 8 (λ n. text-range) (omega arith) (omega arith) (λ e l h. omega arith) (check-from (text-outcome text))
@@ -347,13 +146,15 @@ pub data PlainOutcome (R : ℕ → Type 0) (text inputs : List ℕ) (budget : �
       (record { returns = 0; answer = answerBytes (plainRun p (inputWords inputs) budget) ++ drop answerLength answer })
 
 module _ (text inputs : List ℕ) (budget : ℕ) (answer : List ℕ) {b c : Bool} where
-  plain-on : (t : Checked) → CallOutcome b c text Never t → PlainOutcome (Reason b c text Never) text inputs budget answer (Calls.plainOn inputs budget answer t)
+  plain-on :
+      (t : Checked) → CallOutcome b c text Never t
+      → PlainOutcome (Reason b c text Never) text inputs budget answer (Calls.plainOn inputs budget answer t)
   unfolding Calls.plainOn
   plain-on (refused n) (early f h) = notRun f h
   plain-on (accepted p) (goesOn e f) = run (none f) e
 
 module _ {R : ℕ → Type 0} {text inputs : List ℕ} {budget : ℕ} {answer : List ℕ} where
-  plain-outcome : {a : PlainAnswer} → PlainOutcome R text inputs budget answer a → Outcome R (λ r. r ≡ 0) (a .returns)
+  plain-outcome : {a : PlainAnswer} → PlainOutcome R text inputs budget answer a → Outcome R Zero (a .returns)
   plain-outcome (notRun f h) = refusal f
   plain-outcome (run f e) = success f refl
 
@@ -370,7 +171,7 @@ module _ (text inputs : List ℕ) (budget : ℕ) (answer : List ℕ) where
   unfolding Calls.plainCall
   plain-comes = plain-on text inputs budget answer _ (call-outcome text (λ n. never) _ _)
 
-  pub plain-refuses : Refuses (PlainReason text inputs budget answer) 1 8 (λ r. r ≡ 0) (Calls.plainCall text inputs budget answer .returns)
+  pub plain-refuses : Refuses (PlainReason text inputs budget answer) 1 8 Zero (Calls.plainCall text inputs budget answer .returns)
   plain-refuses =
       refuses 1 8 (reason-range 8 (omega arith) (λ n. never)) (omega arith) (omega arith) (λ e l h. omega arith) (plain-outcome plain-comes)
 
@@ -400,17 +201,6 @@ pub data TablesOutcome
         pool = poolBytes terms ++ drop poolLength w;
       })
 
--- an overrun is the table's own refusal
-overrun-table :
-    {text : List ℕ} {p : Program} {budget most n : ℕ} → checkText text ≡ accepted p → Overrun text budget most n
-    → table p budget most ≡ Explore.refused n
-overrun-table {p = p} {budget} {most} {n} e (after k {p = q} f o) =
-    let same : q ≡ p = cc in
-    subst (λ (r : Program). table r budget most ≡ Explore.refused n) same (overruns-table q budget most k o)
-
-overrun-late : {text : List ℕ} {budget most : ℕ} (n : ℕ) → Overrun text budget most n → (9 ≤ n) × (n ≤ 10)
-overrun-late n (after k e o) = overruns-range o
-
 module _ (success : Pool → List (Row Ref) → ℕ) (text : List ℕ) (budget most : ℕ) (t w : List ℕ) {b c : Bool} where
   tables-from :
       (p : Program) → checkText text ≡ accepted p
@@ -435,18 +225,23 @@ module _ (success : Pool → List (Row Ref) → ℕ) (text : List ℕ) (budget m
       n (omega arith))
       e g
 
-  tables-on : (x : Checked) → CallOutcome b c text (Overrun text budget most) x → TablesOutcome (Reason b c text (Overrun text budget most)) success text budget most t w (Calls.exploreOn success budget most t w x)
+  tables-on :
+      (x : Checked) → CallOutcome b c text (Overrun text budget most) x
+      → TablesOutcome (Reason b c text (Overrun text budget most)) success text budget most t w (Calls.exploreOn success budget most t w x)
   unfolding Calls.exploreOn
   tables-on (refused n) (early f h) = notExplored f h
   tables-on (accepted p) (goesOn e f) = tables-from p e f (table p budget most) refl
 
 module _ {R : ℕ → Type 0} {succeed : Pool → List (Row Ref) → ℕ} {text : List ℕ} {budget most : ℕ} {t w : List ℕ} where
   tables-outcome :
-      {a : TableAnswer} {Success : ℕ → Type 0} → ((terms : Pool) (rows : List (Row Ref)) → Success (succeed terms rows))
-      → TablesOutcome R succeed text budget most t w a → Outcome R Success (a .returns)
+      {a : TableAnswer} {Success : ℕ → Type 0}
+      → ((p : Program) (terms : Pool) (rows : List (Row Ref)) → ((n : ℕ) → R n → ⊥) → checkText text ≡ accepted p
+      → table p budget most ≡ explored terms rows → Success (succeed terms rows))
+      → TablesOutcome R succeed text budget most t w a
+      → Outcome R Success (a .returns)
   tables-outcome s (notExplored f h) = refusal f
   tables-outcome s (overrun f h) = refusal f
-  tables-outcome s (tabled {terms = terms} {rows = rows} f e g) = success f (s terms rows)
+  tables-outcome s (tabled {p} {terms} {rows} f e g) = success f (s p terms rows f e g)
 
   -- a success is no refusal's number
   tables-leave :
@@ -467,17 +262,52 @@ module _ {R : ℕ → Type 0} {succeed : Pool → List (Row Ref) → ℕ} {text 
   tables-as (tabled {p} {terms} {rows} f e d) g =
       record { program = p; terms = terms; rows = rows; reads = e; explores = d; is = refl }
 
+-- budgets that are not refused, and the rows there are then
+budgets-within : (budget most : ℕ) → (Calls.wrongBudgets budget most ≡ true → ⊥) → (budget ≤ 1024) × (most ≤ 16)
+unfolding Calls.wrongBudgets
+budgets-within budget most f = at (leb 1 budget) (leb budget 1024) refl (ltb 16 most) refl f
+  where
+    at :
+        (a b : Bool) → leb budget 1024 ≡ b → (c : Bool) → ltb 16 most ≡ c → (not (a && b) || c ≡ true → ⊥) → (budget ≤ 1024) × (most ≤ 16)
+    at true true d false e g = (leb-true budget 1024 d, ltb-false 16 most e)
+    at true true d true e g = absurd (g refl)
+    at true false d c e g = absurd (g refl)
+    at false b d c e g = absurd (g refl)
+
+-- the table of an accepted text is sound
+pub sound-table :
+    (text : List ℕ) (budget most : ℕ) → (Calls.wrongBudgets budget most ≡ true → ⊥)
+    → {p : Program} {terms : Pool} {rows : List (Row Ref)}
+    → checkText text ≡ accepted p
+    → table p budget most ≡ explored terms rows
+    → Sound terms rows
+sound-table text budget most right {p} reads explores =
+    let (small, few) = budgets-within budget most right in
+    exploring-sound budget most (accepted-well-formed text p reads) small few explores
+
+pub placed-row :
+    (text : List ℕ) (budget most : ℕ) → (Calls.wrongBudgets budget most ≡ true → ⊥) → (inputs : List ℕ)
+    → {p : Program} {terms : Pool} {rows : List (Row Ref)}
+    → checkText text ≡ accepted p
+    → table p budget most ≡ explored terms rows
+    → (256 ≤ 256 + placed inputs terms rows) × (256 + placed inputs terms rows < 320)
+placed-row text budget most right inputs {p} {terms} {rows} reads explores =
+    let s : Sound terms rows = sound-table text budget most right reads explores in
+    let (a, e) = of-the-table p budget most inputs terms rows explores in
+    let h : a .place < length rows = stands-below (a .stands) in
+    omega (arith, s .fewRows)
+
 module _ (text : List ℕ) (budget most : ℕ) (t w : List ℕ) where
   explore-comes : TablesOutcome (ExploreReason text budget most t w) Calls.succeeds text budget most t w (Calls.exploreCall text budget most t w)
   unfolding Calls.exploreCall
   explore-comes = tables-on Calls.succeeds text budget most t w _ (call-outcome text (λ n r. overrun-late n r .0) _ _)
 
   pub explore-refuses :
-      Refuses (ExploreReason text budget most t w) 1 10 (λ r. r ≡ 0) (Calls.exploreCall text budget most t w .returns)
+      Refuses (ExploreReason text budget most t w) 1 10 Zero (Calls.exploreCall text budget most t w .returns)
   unfolding Calls.succeeds
   explore-refuses =
       refuses 1 10 (reason-range 10 (omega arith) overrun-late) (omega arith) (omega arith) (λ e l h. omega arith)
-      (tables-outcome (λ terms rows. refl) explore-comes)
+      (tables-outcome (λ p terms rows none e g. refl) explore-comes)
 
   pub explore-leaves : Leaves t w (Calls.exploreCall text budget most t w)
   unfolding Calls.succeeds
@@ -496,11 +326,11 @@ module _ (text inputs : List ℕ) (budget most : ℕ) (t w : List ℕ) where
   place-comes = tables-on (Calls.placesIn inputs) text budget most t w _ (call-outcome text (λ n r. overrun-late n r .0) _ _)
 
   pub place-refuses :
-      Refuses (PlaceReason text inputs budget most t w) 1 10 (λ r. 256 ≤ r) (Calls.placeCall text inputs budget most t w .returns)
+      Refuses (PlaceReason text inputs budget most t w) 1 10 ARow (Calls.placeCall text inputs budget most t w .returns)
   unfolding Calls.placesIn
   place-refuses =
       refuses 1 10 (reason-range 10 (omega arith) overrun-late) (omega arith) (omega arith) (λ e l h. omega arith)
-      (tables-outcome (λ terms rows. omega arith) place-comes)
+      (tables-outcome (λ p terms rows none e g. placed-row text budget most (λ d. none 1 (ofBudgets d)) (inputWords inputs) e g) place-comes)
 
   pub place-leaves : Leaves t w (Calls.placeCall text inputs budget most t w)
   unfolding Calls.placesIn

@@ -11,7 +11,7 @@ use Rattle.gil.specs.Values.{Constant}
 use Rattle.gil.specs.Rows.{Row}
 use Rattle.gil.specs.Plain.{plainRun}
 use Rattle.gil.specs.Pool.{Ref, placeIn, Pool, valueOf, poolValues, meets}
-use Rattle.gil.specs.Accounts.{putIn, Stands, here, further, Accounts}
+use Rattle.gil.specs.Accounts.{rowWith, putIn, Stands, here, further, Accounts}
 use Rattle.gil.specs.Layout.{wordBytes, rowWords, rowBytes, headWords, outcomeWords, room, refTag, tableBytes, poolBytes, answerBytes, inputWords}
 use Rattle.code.specs.WellFormed as WellFormed
 use Rattle.code.specs.WellFormed.{Each}
@@ -22,7 +22,7 @@ use Rattle.locate.specs.Inputs.{Bytes}
 use Rattle.locate.specs.Terms.{ValuesAs, values-as}
 use Rattle.locate.specs.Laws.{RowAt, row-at, row-count, term-count, row-holds, length-row, length-outcome, getD-behind, all-of}
 use Rattle.demands.specs.FromBytes.{rowsIn, wordsAt, rowIn, stepsIn, valuesIn, meetsRow, putRow, putInBytes}
-use Rattle.demands.specs.PutIn.{row-put}
+use Rattle.demands.specs.PutIn.{row-put, answer-steps}
 
 -- words read one after another
 words-read :
@@ -52,7 +52,7 @@ pub each-at : {A : Type 0} {P : A → Type 0} {k : ℕ} {a : A} {l : List A} →
 each-at (WellFormed.more p ps) here = p
 each-at (WellFormed.more p ps) (further s) = each-at ps s
 
-stands-below : {A : Type 0} {k : ℕ} {a : A} {l : List A} → Stands k a l → k < length l
+pub stands-below : {A : Type 0} {k : ℕ} {a : A} {l : List A} → Stands k a l → k < length l
 stands-below here = omega arith
 stands-below (further s) = let h : _ < _ = stands-below s in omega arith
 
@@ -82,6 +82,7 @@ pub record Found (T P inputs : List ℕ) (p : Program) (place : ℕ) : Type 0 wh
   pub placed : place ≡ row
   pub few : stepsIn T row ≤ 1024
   pub ran : answerBytes (plainRun p (inputWords inputs) (stepsIn T row)) ≡ putInBytes T P inputs row
+  pub used : (x : List ℕ) → wordAt (putInBytes T P inputs row ++ x) 12 ≡ stepsIn T row
 
 module _ {w : Pool} {rows : List (Row Ref)} (s : Sound w rows) (extra rest inputs : List ℕ) (long : length inputs ≡ 64) (bytes : Bytes inputs) where
   abbrev T : List ℕ
@@ -128,6 +129,13 @@ module _ {w : Pool} {rows : List (Row Ref)} (s : Sound w rows) (extra rest input
     unfolding putInBytes answerBytes rowBytes
     put-read = ap (λ (l : List ℕ). gather wordBytes (putRow (valuesIn T P inputs) l)) row-read ∙ ap (gather wordBytes) (row-put values-read fits)
 
+    put-steps : (x : List ℕ) → wordAt (putInBytes T P inputs k ++ x) 12 ≡ stepsIn T k
+    unfolding putIn rowWith
+    put-steps x =
+        ap (λ (l : List ℕ). wordAt (l ++ x) 12) put-read
+        ∙ answer-steps (putIn (valueOf cs) r) (omega (arith, fits .steps)) x
+        ∙ sym steps-read
+
   -- the row that the definitions account for
   pub accounted-found :
       (p : Program) (place : ℕ) (a : Accounts p (inputWords inputs) w rows) → place ≡ a .place → Found T P inputs p place
@@ -146,4 +154,5 @@ module _ {w : Pool} {rows : List (Row Ref)} (s : Sound w rows) (extra rest input
             ap (λ (n : ℕ). answerBytes (plainRun p (inputWords inputs) n)) (steps-read (a .stands))
             ∙ ap answerBytes (a .ran)
             ∙ sym (put-read (a .stands));
+        used = λ x. put-steps (a .stands) x;
       }

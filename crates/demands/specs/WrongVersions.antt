@@ -1,5 +1,6 @@
 -- "See these rejected": wrong versions of the calls, and for each the demand that refuses it, as a theorem. docs/WRONG-VERSIONS.md lists them.
--- A version is refused if it is wrong on one text that a demand speaks of; the texts are those of examples 1 and 8. Assumes nothing.
+-- A version is refused if it is wrong on one text; the texts are those of examples 1 and 8, and one that makes too many terms (Examples).
+-- Assumes nothing.
 use Prim.Native.Nat.{ℕ, zero, suc, _+_, _*_, _%_, _≤_, _<_}
 use native.Mathlib.Omega.{arith}
 use mathlib.Core.Path.{_≡_, refl, sym, _∙_, ap, ap₂, subst}
@@ -17,23 +18,21 @@ use Rattle.gil.specs.Pool.{Ref, placeIn, Pool, pooled, table, valueOf}
 use Rattle.gil.specs.Accounts.{putEnd, putVariable, rowWith, putOutcome, putIn, Stands, here, further, Accounts, explorationAfter}
 use Rattle.gil.specs.Demand3.{after-every-command}
 use Rattle.gil.specs.Plain.{plainRun}
-use Rattle.gil.specs.Theory.Tests.{and-left, and-right}
+use Rattle.gil.specs.Theory.Tests.{no-false, and-left, and-right}
 use Rattle.gil.specs.Layout.{tableLength, poolLength, answerLength, inputsLength, wordBytes, rowBytes, room, constantWords, valueWords, reasonCode, endWords, outcomeWords, headWords, rowWords, refTag, tableBytes, poolBytes, answerBytes, inputWords}
 use Rattle.gil.specs.Calls as Calls
 use Rattle.gil.specs.Calls.{PlainAnswer, TableAnswer}
-use Rattle.code.specs.WellFormed.{Each, none, more}
-use Rattle.code.specs.Accepted.{accepted-well-formed}
+use Rattle.code.specs.WellFormed.{none, more}
 use Rattle.words.specs.Words.{wordAt}
 use Rattle.locate.specs.Inputs.{Bytes}
 use Rattle.locate.specs.Sound.{Sound, RowFits, OutcomeFits, fitsEnded, fitsVanished, fitsCut}
-use Rattle.locate.specs.Exploring.{exploring-sound}
 use Rattle.locate.specs.Laws.{RowAt, row-count}
-use Rattle.demands.specs.Reasons.{CheckReason, PlainReason, ExploreReason, PlaceReason, First}
-use Rattle.demands.specs.Refusals.{check-refuses, plain-refuses, plain-runs, explore-refuses, place-refuses}
+use Rattle.demands.specs.Reasons.{CheckReason, PlainReason, ExploreReason, PlaceReason}
+use Rattle.demands.specs.Refusals.{check-refuses, plain-refuses, plain-runs, sound-table, placed-row, explore-refuses, explore-explores, place-refuses}
 use Rattle.demands.specs.Determined.{ran-as, explored-as}
 use Rattle.demands.specs.FromBytes.{rowsIn, stepsIn, meetsRow, putInBytes, OneRow}
 use Rattle.demands.specs.Rows.{each-at, stands-at, rows-read, meets-read, steps-read, put-read}
-use Rattle.demands.specs.Examples.{text8, program8, row8, textA, programA, termsA, rowA, rowA′, inputs38, computed}
+use Rattle.demands.specs.Examples.{text8, program8, row8, textA, termsA, rowA, rowA′, inputs38, textMany, computed}
 use Rattle.demands.specs.Demands.{FourCalls, Demand1, Demand2, Demand3}
 
 -- lent memory, and inputs, of just the length needed
@@ -57,6 +56,10 @@ enough n =
 tables-long : Calls.shortTables lentTable lentPool ≡ false
 unfolding Calls.shortTables lentTable lentPool
 tables-long = ap₂ (λ (a b : Bool). a || b) (enough tableLength) (enough poolLength)
+
+budgets-right : Calls.wrongBudgets 1024 16 ≡ true → ⊥
+unfolding Calls.wrongBudgets
+budgets-right e = no-false e refl
 
 inputs-long : Calls.wrongInputs noInputs ≡ false
 unfolding Calls.wrongInputs noInputs
@@ -89,7 +92,8 @@ module _
     unfolding Calls.placeCall Calls.placesIn
     place-none =
         place-refuses text noInputs 1024 16 lentTable lentPool .otherwise .0
-        (let e : _ ≡ _ = tables-go (Calls.placesIn noInputs) _ (ap₂ (λ (a b : Bool). a || b) inputs-long tables-long) in rw e (omega arith))
+        (let e : _ ≡ _ = tables-go (Calls.placesIn noInputs) _ (ap₂ (λ (a b : Bool). a || b) inputs-long tables-long) in
+        rw e (placed-row text 1024 16 budgets-right (inputWords noInputs) reads explores))
 
     plain-none : (budget : ℕ) → Calls.wrongBudget budget ≡ false → (n : ℕ) → PlainReason text noInputs budget lentAnswer n → ⊥
     unfolding Calls.plainCall Calls.firstOf Calls.plainOn
@@ -103,6 +107,13 @@ module _
     unfolding Calls.checkCall Calls.textAnswer
     check-none = check-refuses text .otherwise .0 (ap Calls.textAnswer reads)
 
+many-refused : Calls.exploreCall textMany 1024 16 lentTable lentPool .returns ≡ 10
+unfolding Calls.exploreCall Calls.wrongBudgets Calls.firstOf Calls.exploreOn Calls.tablesAfter
+many-refused =
+    ap (λ (b : Bool). Calls.exploreOn Calls.succeeds 1024 16 lentTable lentPool (Calls.firstOf false b (checkText textMany)) .returns) tables-long
+    ∙ ap (λ (c : Checked). Calls.exploreOn Calls.succeeds 1024 16 lentTable lentPool c .returns) (computed .readsMany)
+    ∙ ap (λ (x : Explored Pool Ref). Calls.tablesAfter Calls.succeeds lentTable lentPool x .returns) (computed .tableMany)
+
 module _ (c : FourCalls) where
   -- REFUSES EVERYTHING (demand 1), in any one of the four calls
   pub no-check-refuses-all : ((text : List ℕ) → 1 ≤ c .check text) → Demand1 c → ⊥
@@ -114,7 +125,8 @@ module _ (c : FourCalls) where
       ((text inputs : List ℕ) (budget : ℕ) (answer : List ℕ) → 1 ≤ c .plain text inputs budget answer .returns) → Demand1 c → ⊥
   no-plain-refuses-all always d =
       let e : c .plain text8 noInputs 1024 lentAnswer .returns ≡ 0 =
-      d .plain text8 noInputs 1024 lentAnswer .otherwise .1 (plain-none text8 (computed .reads8) (computed .table8) 1024 (unfold Calls.wrongBudget in refl)) in
+      d .plain text8 noInputs 1024 lentAnswer .otherwise .1
+      (plain-none text8 (computed .reads8) (computed .table8) 1024 (unfold Calls.wrongBudget in refl)) in
       omega (arith, always text8 noInputs 1024 lentAnswer)
 
   pub no-explore-refuses-all :
@@ -127,30 +139,29 @@ module _ (c : FourCalls) where
   pub no-place-refuses-all :
       ((text inputs : List ℕ) (budget most : ℕ) (t w : List ℕ) → c .place text inputs budget most t w .returns ≤ 10) → Demand1 c → ⊥
   no-place-refuses-all always d =
-      let e : 256 ≤ c .place text8 noInputs 1024 16 lentTable lentPool .returns =
+      let (e, _) =
       d .place text8 noInputs 1024 16 lentTable lentPool .otherwise .1 (place-none text8 (computed .reads8) (computed .table8)) in
       omega (arith, always text8 noInputs 1024 16 lentTable lentPool)
 
-  -- A MADE-UP COUNT OF TERMS (demand 1, by refusal 10): too many, where one text without terms is refused; and too few or too many, anywhere
-  pub no-made-up-terms-8 : c .explore text8 1024 16 lentTable lentPool .returns ≡ 10 → Demand1 c → ⊥
-  no-made-up-terms-8 e d =
+  -- A MADE-UP COUNT OF TERMS (demand 1, by refusal 10): too many, where a text that makes no term is refused; too few, where one that would
+  -- make the 2,049th is not
+  pub no-terms-too-many : c .explore text8 1024 16 lentTable lentPool .returns ≡ 10 → Demand1 c → ⊥
+  no-terms-too-many e d =
       explore-none text8 (computed .reads8) (computed .table8) 10
       (d .explore text8 1024 16 lentTable lentPool .exactly 10 (omega arith) (omega arith) .0 e .0)
 
-  pub no-made-up-terms :
-      (text : List ℕ) (budget most : ℕ) (t w : List ℕ)
-      → First (ExploreReason text budget most t w) 10
-      → (c .explore text budget most t w .returns ≡ 10 → ⊥)
-      → Demand1 c
-      → ⊥
-  no-made-up-terms text budget most t w f e d = e (d .explore text budget most t w .exactly 10 (omega arith) (omega arith) .1 f)
+  pub no-terms-too-few : (c .explore textMany 1024 16 lentTable lentPool .returns ≡ 10 → ⊥) → Demand1 c → ⊥
+  no-terms-too-few e d =
+      e
+      (d .explore textMany 1024 16 lentTable lentPool .exactly 10 (omega arith) (omega arith) .1
+      (explore-refuses textMany 1024 16 lentTable lentPool .exactly 10 (omega arith) (omega arith) .0 many-refused))
 
 -- the tables of the two texts are sound, and so are those that wrong versions make of their rows
 sound-8 : Sound [] (row8 (ended vanished) 1 ∷ [])
-sound-8 = exploring-sound 1024 16 (accepted-well-formed text8 program8 (computed .reads8)) (omega arith) (omega arith) (computed .table8)
+sound-8 = sound-table text8 1024 16 budgets-right (computed .reads8) (computed .table8)
 
 sound-A : Sound termsA (rowA ∷ rowA′ ∷ [])
-sound-A = exploring-sound 1024 16 (accepted-well-formed textA programA (computed .readsA)) (omega arith) (omega arith) (computed .tableA)
+sound-A = sound-table textA 1024 16 budgets-right (computed .readsA) (computed .tableA)
 
 sound-twice : Sound termsA (rowA ∷ rowA ∷ [])
 sound-twice =
@@ -225,10 +236,11 @@ module _ (c : FourCalls) (d : Demand2 c) where
   pub no-constant-table :
       (T : List ℕ) → c .explore text8 1024 16 lentTable lentPool .table ≡ T → c .explore textA 1024 16 lentTable lentPool .table ≡ T → ⊥
   no-constant-table T e f =
-      let same : tableBytes [] (row8 (ended vanished) 1 ∷ []) ++ drop tableLength lentTable ≡ tableBytes termsA (rowA ∷ rowA′ ∷ []) ++ drop tableLength lentTable =
+      let x : List ℕ = drop tableLength lentTable in
+      let same : tableBytes [] (row8 (ended vanished) 1 ∷ []) ++ x ≡ tableBytes termsA (rowA ∷ rowA′ ∷ []) ++ x =
       sym (table-of text8 (computed .reads8) (computed .table8)) ∙ e ∙ sym f ∙ table-of textA (computed .readsA) (computed .tableA) in
       let z : _≡_ {A = ℕ} 1 2 =
-      sym (row-count sound-8 (drop tableLength lentTable)) ∙ ap (λ (l : List ℕ). wordAt l 0) same ∙ row-count sound-A (drop tableLength lentTable) in
+      sym (row-count sound-8 x) ∙ ap (λ (l : List ℕ). wordAt l 0) same ∙ row-count sound-A x in
       omega arith
 
   -- WRITES NOTHING (demand 2)
@@ -243,11 +255,13 @@ module _ (c : FourCalls) (d : Demand2 c) where
   answer-of budget few =
       ran-as (d .plain text8 noInputs budget lentAnswer (plain-none text8 (computed .reads8) (computed .table8) budget few)) (computed .reads8)
 
-  pub no-plain-writes-nothing : ((text inputs : List ℕ) (budget : ℕ) (answer : List ℕ) → c .plain text inputs budget answer .answer ≡ answer) → ⊥
+  pub no-plain-writes-nothing :
+      ((text inputs : List ℕ) (budget : ℕ) (answer : List ℕ) → c .plain text inputs budget answer .answer ≡ answer) → ⊥
   unfolding Calls.wrongBudget
   no-plain-writes-nothing f =
       let x : List ℕ = drop answerLength lentAnswer in
-      let kept : (budget : ℕ) → Calls.wrongBudget budget ≡ false → (r : Row ⊥) → plainRun program8 (inputWords noInputs) budget ≡ r → answerBytes r ++ x ≡ lentAnswer =
+      let run : ℕ → Row ⊥ = plainRun program8 (inputWords noInputs) in
+      let kept : (budget : ℕ) → Calls.wrongBudget budget ≡ false → (r : Row ⊥) → run budget ≡ r → answerBytes r ++ x ≡ lentAnswer =
       λ budget few r e.
       ap (λ (q : Row ⊥). answerBytes q ++ x) (sym e)
       ∙ ap (λ (a : PlainAnswer). a .answer) (sym (answer-of budget few))
@@ -255,7 +269,8 @@ module _ (c : FourCalls) (d : Demand2 c) where
       let z : _≡_ {A = ℕ} 3 5 =
       sym (vanished-first 1 x)
       ∙ ap (λ (l : List ℕ). getD l 0 0)
-      (kept 7 refl (row8 (ended vanished) 1) (computed .run8 (inputWords noInputs)) ∙ sym (kept 0 refl (row8 (cut steps) 0) (computed .cut8 (inputWords noInputs))))
+      (kept 7 refl (row8 (ended vanished) 1) (computed .run8 (inputWords noInputs))
+      ∙ sym (kept 0 refl (row8 (cut steps) 0) (computed .cut8 (inputWords noInputs))))
       ∙ cut-first x in
       omega arith
 
@@ -286,7 +301,17 @@ module _ (c : FourCalls) (d : Demand2 c) where
       let z : _≡_ {A = ℕ} 3 5 = other-row (cut steps) 0 fitsCut (omega arith) e 0 (omega arith) in
       omega arith
 
-  -- THE FIRST PATH AND AN INVENTED REST (demand 2): example 1's first row, twice
+  -- THE FIRST PATH AND AN INVENTED REST (demand 2): any other table, pool or answer than the definitions' is refused, on any text; so example
+  -- 1's first row, twice
+  pub no-invented-table :
+      (text : List ℕ) (budget most : ℕ) (t w : List ℕ)
+      → ((n : ℕ) → ExploreReason text budget most t w n → ⊥)
+      → (c .explore text budget most t w ≡ Calls.exploreCall text budget most t w → ⊥)
+      → ⊥
+  no-invented-table text budget most t w no-reason other =
+      let y = explore-explores text budget most t w no-reason in
+      other (explored-as (d .explore text budget most t w no-reason) (y .reads) (y .explores) ∙ sym (y .is))
+
   pub no-invented-rest :
       c .explore textA 1024 16 lentTable lentPool .table ≡ tableBytes termsA (rowA ∷ rowA ∷ []) ++ drop tableLength lentTable → ⊥
   unfolding rowA rowA′ rowWords headWords outcomeWords endWords room valueWords constantWords
@@ -358,16 +383,31 @@ module _ (c : FourCalls) (d : Demand3 c) where
       (d .accounts text inputs 1024 16 lentTable lentPool lentAnswer long bytes answer-room
       (ap (λ (b : TableAnswer). b .returns) e ∙ success))
 
-  -- THE FIRST PATH AND AN INVENTED REST (demand 3): the inputs 3 and 8 meet both rows' conditions
+  -- THE FIRST PATH AND AN INVENTED REST (demand 3): no inputs meet two rows' conditions; of example 1's first row, twice, 3 and 8 meet both
+  pub no-two-rows :
+      (text inputs : List ℕ) → length inputs ≡ inputsLength → Bytes inputs → (a : TableAnswer)
+      → c .explore text 1024 16 lentTable lentPool ≡ a
+      → a .returns ≡ 0
+      → (j k : ℕ)
+      → j < k
+      → k < rowsIn (a .table)
+      → meetsRow (a .table) (a .pool) inputs j ≡ true
+      → meetsRow (a .table) (a .pool) inputs k ≡ true
+      → ⊥
+  no-two-rows text inputs long bytes a e success j k before there meets-j meets-k =
+      let o = row-among text inputs long bytes a e success in
+      let first : j ≡ o .row = o .only j (omega arith) meets-j in
+      let second : k ≡ o .row = o .only k there meets-k in
+      omega arith
+
   pub no-invented-rest-3 : c .explore textA 1024 16 lentTable lentPool ≡ wrongTable termsA (rowA ∷ rowA ∷ []) → ⊥
   no-invented-rest-3 e =
       let x : List ℕ = drop tableLength lentTable in
       let y : List ℕ = drop poolLength lentPool in
-      let o = row-among textA inputs38 long-38 bytes-38 (wrongTable termsA (rowA ∷ rowA ∷ [])) e refl in
       let rows : rowsIn (tableBytes termsA (rowA ∷ rowA ∷ []) ++ x) ≡ 2 = rows-read sound-twice x y inputs38 long-38 bytes-38 in
-      let first : 0 ≡ o .row = o .only 0 (omega arith) (meets-read sound-twice x y inputs38 long-38 bytes-38 here ∙ computed .meetsA) in
-      let second : 1 ≡ o .row = o .only 1 (omega arith) (meets-read sound-twice x y inputs38 long-38 bytes-38 (further here) ∙ computed .meetsA) in
-      omega arith
+      no-two-rows textA inputs38 long-38 bytes-38 (wrongTable termsA (rowA ∷ rowA ∷ [])) e refl 0 1 (omega arith) (omega arith)
+      (meets-read sound-twice x y inputs38 long-38 bytes-38 here ∙ computed .meetsA)
+      (meets-read sound-twice x y inputs38 long-38 bytes-38 (further here) ∙ computed .meetsA)
 
   -- A MADE-UP COUNT OF STEPS (demand 3): the plain run given seven steps uses one
   pub no-made-up-steps-3 :
@@ -388,12 +428,10 @@ module _ (c : FourCalls) (d : Demand3 c) where
       let seven : stepsIn T 0 ≡ 7 = steps-8 7 (steps-read s x y noInputs long-none bytes-none here) in
       let put : putInBytes T (poolBytes [] ++ y) noInputs 0 ≡ answerBytes (row8 (ended vanished) 7) =
       put-read s x y noInputs long-none bytes-none here ∙ ap answerBytes (put-8 7 _) in
-      let ran : c .plain text8 noInputs (stepsIn T 0) lentAnswer ≡ record { returns = 0; answer = putInBytes T (poolBytes [] ++ y) noInputs 0 ++ z } =
-      subst
-      (λ (k : ℕ).
-      c .plain text8 noInputs (stepsIn T k) lentAnswer ≡ record { returns = 0; answer = putInBytes T (poolBytes [] ++ y) noInputs k ++ z })
-      only (o .ran) in
-      let right : Calls.plainCall text8 noInputs 7 lentAnswer ≡ record { returns = 0; answer = answerBytes (plainRun program8 (inputWords noInputs) 7) ++ z } =
+      let answers : List ℕ → PlainAnswer = λ l. record { returns = 0; answer = l ++ z } in
+      let ran : c .plain text8 noInputs (stepsIn T 0) lentAnswer ≡ answers (putInBytes T (poolBytes [] ++ y) noInputs 0) =
+      subst (λ (k : ℕ). c .plain text8 noInputs (stepsIn T k) lentAnswer ≡ answers (putInBytes T (poolBytes [] ++ y) noInputs k)) only (o .ran) in
+      let right : Calls.plainCall text8 noInputs 7 lentAnswer ≡ answers (answerBytes (plainRun program8 (inputWords noInputs) 7)) =
       ran-as (plain-runs text8 noInputs 7 lentAnswer (plain-none text8 (computed .reads8) (computed .table8) 7 refl)) (computed .reads8) in
       let same : answerBytes (row8 (ended vanished) 1) ++ z ≡ answerBytes (row8 (ended vanished) 7) ++ z =
       ap (λ (r : Row ⊥). answerBytes r ++ z) (sym (computed .run8 (inputWords noInputs)))
