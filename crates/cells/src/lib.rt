@@ -177,7 +177,7 @@ pub fn take_out(cells: [Cell; CELLS], held: usize, l: Location) -> [Cell; CELLS]
         }
         let c = cells[i];
         i += 1;
-        if l.0 == c.location.0 {
+        if c.location.0 == l.0 {
             continue;
         }
         out[n] = c;

@@ -2,7 +2,7 @@
 use Prim.Native.Nat.{ℕ, zero, suc, _+_, _-_, _*_, _/_, _%_}
 use mathlib.Core.Bool.{Bool}
 use mathlib.Core.List.{List}
-use lib.ListN.{getD, set}
+use lib.ListN.{getD, set, replicate}
 use lib.Dec.{ltb, leb, eqb}
 use Rattle.values.specs.Packed.{if?}
 use Rattle.terms.specs.Made.{Did}
@@ -37,6 +37,14 @@ zerosIn (suc k) at store = zerosIn k (at + 1) (putIn at 0 store)
 -- the program's words
 unfoldable pub codeWord : List ℕ → ℕ → ℕ
 codeWord code at = if? (ltb at 18994) (getD code at 0) 0
+
+-- where a path begins
+unfoldable pub startIn : List ℕ → Control
+startIn code =
+    record { frame = 0; procedure = codeWord code 1; command = 0; inputs = record { 0 = 0 }; locations = record { 0 = 0 } }
+
+unfoldable pub startStore : List ℕ
+startStore = set (replicate 152 0) 0 4294967296
 
 abbrev pub vanishCommand : Command
 vanishCommand = record { kind = 11; target = 0; first = 0; other = 0; second = 0 }

@@ -7,7 +7,7 @@ ghost use mathlib.Core.Path.{_≡_};
 ghost use Prim.Native.Nat.{_<_};
 ghost use Rattle.terms.specs.Made.{did};
 ghost use Rattle.terms.specs.Laws.{freshIn};
-ghost use Rattle.commands.specs.Stepped.{movedIn, withLocationIn, withInputIn, locateIn, after, receiveIn, actIn, stepIn, gotoIn, onwardIn, putIn, wordIn, zerosIn, codeWord, vanishCommand, commandIn, fetchIn, acted, assignIn, jumpIn, enterIn, leaveIn};
+ghost use Rattle.commands.specs.Stepped.{movedIn, withLocationIn, withInputIn, locateIn, after, receiveIn, actIn, stepIn, startIn, startStore, gotoIn, onwardIn, putIn, wordIn, zerosIn, codeWord, vanishCommand, commandIn, fetchIn, acted, assignIn, jumpIn, enterIn, leaveIn};
 use code::CODE_WORDS;
 use code::FIRST_COMMAND;
 use evaluate::STORE_WORDS;
@@ -96,6 +96,27 @@ fn code_word(code: &[u32; CODE_WORDS], at: usize) -> u32
     ensures { λ r. ⌜ r ≡ codeWord (now (code .entry)) at ⌝ }
 {
     if at < CODE_WORDS { code[at] } else { 0 }
+}
+
+// "`main` starts with its parameter at 0": where a path begins, and its store
+pub fn start(code: &[u32; CODE_WORDS]) -> Control
+    ensures { λ r. ⌜ r ≡ startIn (now (code .entry)) ⌝ }
+{
+    Control {
+        frame: 0,
+        procedure: code_word(code, 1),
+        command: 0,
+        inputs: Input(0),
+        locations: Location(0),
+    }
+}
+
+pub fn start_store() -> [u64; STORE_WORDS]
+    ensures { λ r. ⌜ r ≡ startStore ⌝ }
+{
+    let mut store = [0u64; STORE_WORDS];
+    store[0] = VALUES;
+    store
 }
 
 fn vanish() -> Command

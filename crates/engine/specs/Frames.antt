@@ -141,7 +141,7 @@ module _ (base v procedure next x : ℕ) (store : List ℕ) (whole : length stor
 
 -- "a frame in which only the parameter is bound"
 module _ {T : Type 0} (TermAs : T → ℕ → Type 0) {v : Value T} {y : ℕ} (held : ValueAs TermAs v y) where
-  new-slot : (variables z : ℕ) (F : List ℕ) (base : ℕ) → 1 ≤ variables → z < 16 → getD F base 0 ≡ y
+  pub new-slot : (variables z : ℕ) (F : List ℕ) (base : ℕ) → 1 ≤ variables → z < 16 → getD F base 0 ≡ y
       → ((z : ℕ) → 0 < z → z < 16 → getD F (base + z) 0 ≡ 0)
       → SlotAs TermAs (getD (frame variables v) z none) (getD F (base + z) 0)
   unfolding frame

@@ -45,7 +45,7 @@ unfolding procedureAt
 few-by p ok g true e = procedure-fits p ok g (ltb-true _ _ e) .fewVariables
 few-by p ok g false e =
     let d : procedureAt p g ≡ record { name = []; variables = 0; body = [] } =
-        List·getD-eq-default (p .procedures) (record { name = []; variables = 0; body = [] }) (ltb-false _ _ e) in
+    List·getD-eq-default (p .procedures) (record { name = []; variables = 0; body = [] }) (ltb-false _ _ e) in
     let z : procedureAt p g .variables ≡ 0 = ap (λ (q : Procedure). q .variables) d in
     omega arith
 
@@ -53,7 +53,7 @@ few-variables : (p : Program) → WellFormed p → (g : ℕ) → procedureAt p g
 few-variables p ok g = few-by p ok g (ltb g (length (p .procedures))) refl
 
 module _ {M : Model} (E : Engine M) (p : Program) (ok : WellFormed p) {s : State (M .Term)} {c : Control} {store : List ℕ}
-  {ds : List (Machine.Cell ℕ)} (h : StateAs E p s c store ds) where
+    {ds : List (Machine.Cell ℕ)} (h : StateAs E p s c store ds) where
   few : procedureAt p (s .control .procedure) .variables ≤ 16
   few = few-variables p ok (s .control .procedure)
 
@@ -74,7 +74,7 @@ module _ {M : Model} (E : Engine M) (p : Program) (ok : WellFormed p) {s : State
         → (w : M .World) (pool : List ℕ) (count : ℕ)
         → E .WorldAs w pool count
         → ChangedAs E p store ds (exec M p s cmd w)
-          (engineIn (programWords p) c (ofWords (cmdWords at cmd)) (E .known) (E .inputs) ds store pool count)
+        (engineIn (programWords p) c (ofWords (cmdWords at cmd)) (E .known) (E .inputs) ds store pool count)
     unfolding exec cmdNodes cmdWords engineIn stepIn lookupIn changeIn mutateIn mutateSecond disposeIn actIn give _>>=_ _>>_ settled
     exec-as (anAssign {x} {e} hx fits) at rest nodes w pool count world =
         value-as E p _ _ (evaluated fits at rest nodes world) (λ w v y pool count world a. assign-as E p h few small x hx world a)
@@ -91,9 +91,9 @@ module _ {M : Model} (E : Engine M) (p : Program) (ok : WellFormed p) {s : State
         let m = ofWords (cmdWords at (mutate x e q d)) in
         let nodes₁ : drop at (programWords p) ≡ exprWords e ++ (exprWords d ++ rest) = nodes ∙ append-assoc (exprWords e) (exprWords d) rest in
         let nodes₂ : drop (at + length (exprWords e)) (programWords p) ≡ exprWords d ++ rest =
-            sym (drop-drop (length (exprWords e)) at (programWords p))
-            ∙ ap (λ (l : List ℕ). drop (length (exprWords e)) l) nodes₁
-            ∙ drop-append-seam (exprWords e) (exprWords d ++ rest) in
+        sym (drop-drop (length (exprWords e)) at (programWords p))
+        ∙ ap (λ (l : List ℕ). drop (length (exprWords e)) l) nodes₁
+        ∙ drop-append-seam (exprWords e) (exprWords d ++ rest) in
         operand-as E p _ _ (evaluated fits at (exprWords d ++ rest) nodes₁ world)
         (λ w v y pool count world a.
         operand-as E p _ _ (evaluated fits′ (at + length (exprWords e)) rest nodes₂ world)
@@ -122,7 +122,7 @@ module _ {M : Model} (E : Engine M) (p : Program) (ok : WellFormed p) {s : State
       → ltb (s .control .command) (length (procedureAt p (s .control .procedure) .body)) ≡ b
       → E .WorldAs w pool count
       → ChangedAs E p store ds (exec M p s (commandAt p (s .control)) w)
-        (engineIn (programWords p) c (fetchIn (programWords p) (s .control .procedure) (s .control .command)) (E .known) (E .inputs) ds store pool count)
+      (engineIn (programWords p) c (fetchIn (programWords p) (s .control .procedure) (s .control .command)) (E .known) (E .inputs) ds store pool count)
   unfolding commandAt
   move-by w pool count true e world =
       let f = s .control .procedure in

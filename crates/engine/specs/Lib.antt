@@ -4,3 +4,5 @@ pub mod Memory
 pub mod Moves
 pub mod Words
 pub mod Laws
+pub mod Runs
+pub mod Growth

@@ -51,22 +51,22 @@ module _ {M : Model} (E : Engine M) (p : Program) where
   -- what a command comes to: where it does not go on, the store and the cells are as they were
   pub data NextAs (store : List ℕ) (ds : List (Machine.Cell ℕ)) : Machine.Next (M .Term) → Next → List ℕ → List (Machine.Cell ℕ) → Type 0 where
     goesOn :
-      {s : State (M .Term)} {c : Control} {store′ : List ℕ} {ds′ : List (Machine.Cell ℕ)}
-      → StateAs s c store′ ds′
-      → NextAs store ds (on s) (On c) store′ ds′
+        {s : State (M .Term)} {c : Control} {store′ : List ℕ} {ds′ : List (Machine.Cell ℕ)}
+        → StateAs s c store′ ds′
+        → NextAs store ds (on s) (On c) store′ ds′
     hasReturned : {v : Value (M .Term)} {x : ℕ} → As E v x → NextAs store ds (ends (returned v)) (Returned x) store ds
     hasFailed : {v : Value (M .Term)} {x : ℕ} → As E v x → NextAs store ds (ends (failed v)) (Failed x) store ds
     hasVanished : NextAs store ds (ends vanished) Vanished store ds
     hasErred : {n : ℕ} → NextAs store ds (ends (error n)) (Error n) store ds
     hasForked :
-      {t : M .Term} {x : ℕ} {a b : State (M .Term)} {ca cb : Control}
-      → E .TermAs t x
-      → StateAs a ca store ds
-      → StateAs b cb store ds
-      → NextAs store ds (fork t a b) (Fork (x % 4294967296) ca cb) store ds
+        {t : M .Term} {x : ℕ} {a b : State (M .Term)} {ca cb : Control}
+        → E .TermAs t x
+        → StateAs a ca store ds
+        → StateAs b cb store ds
+        → NextAs store ds (fork t a b) (Fork (x % 4294967296) ca cb) store ds
 
   pub record MovedAs (store : List ℕ) (ds : List (Machine.Cell ℕ)) (m : Moved M) (r : Next) (store′ : List ℕ)
-    (ds′ : List (Machine.Cell ℕ)) (pool : List ℕ) (count : ℕ) : Type 0 where
+      (ds′ : List (Machine.Cell ℕ)) (pool : List ℕ) (count : ℕ) : Type 0 where
     pub world : E .WorldAs (m .world) pool count
     pub next : NextAs store ds (m .next) r store′ ds′
 
@@ -94,7 +94,7 @@ module _ {M : Model} (E : Engine M) (p : Program) where
       (f : Value (M .Term) → M .World → Result (M .World) (Machine.Next (M .Term))) (g : ℕ → Acted)
       → EvalAs E r d
       → ((w : M .World) (v : Value (M .Term)) (x : ℕ) (pool : List ℕ) (count : ℕ) → E .WorldAs w pool count → As E v x
-        → SteppedAs store ds (f v w) (afterActed (g x) pool count))
+      → SteppedAs store ds (f v w) (afterActed (g x) pool count))
       → SteppedAs store ds (andThen r f) (onValue d store g)
   unfolding andThen onValue
   value-as {d} f g (gives {w} {v} h a) k = simp (le-ltb (d .out) 4294967296 (value-low E a)) (k w v (d .out) (d .pool) (d .count) h a)
@@ -107,7 +107,7 @@ module _ {M : Model} (E : Engine M) (p : Program) where
       (f : Value (M .Term) → M .World → Result (M .World) (Machine.Next (M .Term))) (g : ℕ → List ℕ → ℕ → Changed)
       → EvalAs E r d
       → ((w : M .World) (v : Value (M .Term)) (x : ℕ) (pool : List ℕ) (count : ℕ) → E .WorldAs w pool count → As E v x
-        → ChangedAs store ds (f v w) (g x pool count))
+      → ChangedAs store ds (f v w) (g x pool count))
       → ChangedAs store ds (andThen r f) (onOperand d store ds g)
   unfolding andThen onOperand
   operand-as {d} f g (gives {w} {v} h a) k = simp (le-ltb (d .out) 4294967296 (value-low E a)) (k w v (d .out) (d .pool) (d .count) h a)
@@ -191,7 +191,7 @@ module _ {M : Model} (E : Engine M) (p : Program) where
           → E .WorldAs w pool count
           → E .TermAs t y
           → SteppedAs store ds ((must (sameSort booleans o) 2 >> give (fork t (steer (goto n) s) (steer onward s))) w)
-            (after (jumpIn c n y) store pool count)
+          (after (jumpIn c n y) store pool count)
       unfolding must sameSort stop give andThen _>>_ jumpIn settled
       jump-term {y} n numbers (numberTag e) world a =
           simp (ne-eqb (y / 4294967296) 2 (λ f. absurd (omega arith)), ne-eqb (y / 4294967296) 5 (λ f. absurd (omega arith))) (erred 2 world)
@@ -290,14 +290,14 @@ module _ {M : Model} (E : Engine M) (p : Program) where
           → x < procedureAt p (s .control .procedure) .variables
           → E .WorldAs w pool count
           → SteppedAs store ds
-            ((must b 6 >> give (on (assigned x (const (location (s .control .locations))) (steer withLocation s)))) w)
-            (afterActed (locateIn c x store) pool count)
+          ((must b 6 >> give (on (assigned x (const (location (s .control .locations))) (steer withLocation s)))) w)
+          (afterActed (locateIn c x store) pool count)
       unfolding must stop give andThen _>>_ locateIn assignIn
       locate-by x true e hx world =
           let few : s .control .locations < 16 = ltb-true (s .control .locations) 16 e in
           let few′ : c .locations .0 < 16 = omega (arith, h .locations) in
           let a : As E (const (location (s .control .locations))) (12884901888 + c .locations .0) =
-              rw (h .locations) (constAs (aLocation {l = s .control .locations} (omega arith))) in
+          rw (h .locations) (constAs (aLocation {l = s .control .locations} (omega arith))) in
           simp (lt-leb 16 (c .locations .0) few′) (went world (located-as x hx a))
       locate-by x false e hx world =
           let many : 16 ≤ s .control .locations = ltb-false (s .control .locations) 16 e in
@@ -309,14 +309,14 @@ module _ {M : Model} (E : Engine M) (p : Program) where
           → x < procedureAt p (s .control .procedure) .variables
           → E .WorldAs w pool count
           → SteppedAs store ds
-            ((must b 5 >> (making M (Values.input (s .control .inputs)) >>= (λ v. give (on (assigned x v (steer withInput s)))))) w)
-            (receiveIn c x (E .known) (E .inputs) store pool count)
+          ((must b 5 >> (making M (Values.input (s .control .inputs)) >>= (λ v. give (on (assigned x v (steer withInput s)))))) w)
+          (receiveIn c x (E .known) (E .inputs) store pool count)
       unfolding must stop give andThen _>>_ _>>=_ making receiveIn assignIn
       receive-by {w} {pool} {count} x true e hx world =
           let few : s .control .inputs < 16 = ltb-true (s .control .inputs) 16 e in
           let few′ : c .inputs .0 < 16 = omega (arith, h .inputs) in
           let m : MadeAs (E .TermAs) (E .WorldAs) (M .make w (Values.input (s .control .inputs))) (freshIn (E .known) (E .inputs) (c .inputs .0) pool count) =
-              rw (h .inputs) (E .makesInput (s .control .inputs) few world) in
+          rw (h .inputs) (E .makesInput (s .control .inputs) few world) in
           simp (lt-leb 16 (c .inputs .0) few′) (went (m .world) (received-as x hx (m .value)))
       receive-by x false e hx world =
           let many : 16 ≤ s .control .inputs = ltb-false (s .control .inputs) 16 e in
@@ -329,7 +329,7 @@ module _ {M : Model} (E : Engine M) (p : Program) where
           → E .WorldAs w pool count
           → SlotAs (E .TermAs) o y
           → SteppedAs store ds ((there o 3 >>= (λ u. give (on (assigned x u s)))) w)
-            (afterActed (if? (eqb y 0) (acted (Error 3) store) (assignIn c x y store)) pool count)
+          (afterActed (if? (eqb y 0) (acted (Error 3) store) (assignIn c x y store)) pool count)
       unfolding there stop give andThen _>>=_
       look-slot x hx world unbound = erred 3 world
       look-slot x hx world (bound {x = y} a) =
@@ -340,7 +340,7 @@ module _ {M : Model} (E : Engine M) (p : Program) where
           → E .WorldAs w pool count
           → As E v y
           → SteppedAs store ds ((theLocation M v >>= (λ l. there (cellAt l (m .other) (s .cells)) 3 >>= (λ u. give (on (assigned (m .target) u s))))) w)
-            (afterActed (lookAt c m y ds store) pool count)
+          (afterActed (lookAt c m y ds store) pool count)
       unfolding theLocation stop give andThen _>>=_ lookAt truthWord
       look-as m hx world (constAs (aNumber {n} few)) =
           let e : (4294967296 + n) / 4294967296 ≡ 1 = omega arith in simp e (erred 2 world)
@@ -359,21 +359,21 @@ module _ {M : Model} (E : Engine M) (p : Program) where
           → E .WorldAs w pool count
           → As E u z
           → ChangedAs store ds
-            ((must b 7 >> give (on (assigned x (const (boolean true)) (withCells (putCell l q u (s .cells)) s)))) w)
-            (changed
-            (if? (ltb 32 (length (putCell l q (term 0) ds))) (keeping (acted (Error 7) store) ds)
-            (keeping (assignIn c x 8589934593 store) (putCell l q (term z) ds)))
-            pool count)
+          ((must b 7 >> give (on (assigned x (const (boolean true)) (withCells (putCell l q u (s .cells)) s)))) w)
+          (changed
+          (if? (ltb 32 (length (putCell l q (term 0) ds))) (keeping (acted (Error 7) store) ds)
+          (keeping (assignIn c x 8589934593 store) (putCell l q (term z) ds)))
+          pool count)
       unfolding must stop give andThen _>>_ assignIn truthWord
       mutate-by {u = u} {z = z} x l q true e hx world a =
           let cs = put-as (E .TermAs) l q a (h .cells) in
           let fits : length (putCell l q (term 0) ds) ≤ 32 =
-              omega (arith, leb-true (length (putCell l q u (s .cells))) 32 e, cells-length (E .TermAs) cs, put-length l q (term 0) (term z) ds) in
+          omega (arith, leb-true (length (putCell l q u (s .cells))) 32 e, cells-length (E .TermAs) cs, put-length l q (term 0) (term z) ds) in
           simp (le-ltb 32 (length (putCell l q (term 0) ds)) fits) (went world (assigned-as x hx (constAs (aTruth {b = true})) cs))
       mutate-by {u = u} {z = z} x l q false e hx world a =
           let cs = put-as (E .TermAs) l q a (h .cells) in
           let over : 32 < length (putCell l q (term 0) ds) =
-              omega (arith, leb-false (length (putCell l q u (s .cells))) 32 e, cells-length (E .TermAs) cs, put-length l q (term 0) (term z) ds) in
+          omega (arith, leb-false (length (putCell l q u (s .cells))) 32 e, cells-length (E .TermAs) cs, put-length l q (term 0) (term z) ds) in
           simp (lt-ltb 32 (length (putCell l q (term 0) ds)) over) (erred 7 world)
 
       pub mutate-as : {w : M .World} {v u : Value (M .Term)} {y z : ℕ} {pool : List ℕ} {count : ℕ} (m : Command)
@@ -382,12 +382,12 @@ module _ {M : Model} (E : Engine M) (p : Program) where
           → As E v y
           → As E u z
           → ChangedAs store ds
-            ((theLocation M v
-            >>= (λ l.
-            must (leb (length (putCell l (m .other) u (s .cells))) 32) 7
-            >> give (on (assigned (m .target) (const (boolean true)) (withCells (putCell l (m .other) u (s .cells)) s)))))
-            w)
-            (changed (mutateAt c m y z ds store) pool count)
+          ((theLocation M v
+          >>= (λ l.
+          must (leb (length (putCell l (m .other) u (s .cells))) 32) 7
+          >> give (on (assigned (m .target) (const (boolean true)) (withCells (putCell l (m .other) u (s .cells)) s)))))
+          w)
+          (changed (mutateAt c m y z ds store) pool count)
       unfolding theLocation stop give andThen _>>=_ mutateAt truthWord
       mutate-as m hx world (constAs (aNumber {n} few)) b =
           let e : (4294967296 + n) / 4294967296 ≡ 1 = omega arith in simp e (erred 2 world)
@@ -405,8 +405,8 @@ module _ {M : Model} (E : Engine M) (p : Program) where
           → E .WorldAs w pool count
           → As E v y
           → ChangedAs store ds
-            ((theLocation M v >>= (λ l. give (on (assigned (m .target) (const (boolean true)) (withCells (withoutCells l (s .cells)) s))))) w)
-            (changed (disposeAt c m y ds store) pool count)
+          ((theLocation M v >>= (λ l. give (on (assigned (m .target) (const (boolean true)) (withCells (withoutCells l (s .cells)) s))))) w)
+          (changed (disposeAt c m y ds store) pool count)
       unfolding theLocation stop give andThen _>>=_ disposeAt assignIn truthWord
       dispose-as m hx world (constAs (aNumber {n} few)) =
           let e : (4294967296 + n) / 4294967296 ≡ 1 = omega arith in simp e (erred 2 world)
@@ -442,22 +442,31 @@ module _ {M : Model} (E : Engine M) (p : Program) where
       where
         under : FrameAt (E .TermAs) p store m (k .procedure) σ
         under = top (E .TermAs) hs
+
         at : 19 * c .frame + 16 + 2 < 152
         at = omega (arith, h .low)
+
         target : k .target < 16
         target = omega (arith, r .bound, variables (k .procedure))
+
         place : 19 * c .frame + 16 ≡ 19 * suc m + 16
         place = ap (λ (i : ℕ). 19 * i + 16) e
+
         w0 : wordIn (19 * c .frame + 16) store ≡ k .procedure
         w0 = word-is _ _ (omega (arith, at)) (omega (arith, under .there)) (ap (λ (i : ℕ). getD store i 0) place ∙ r .procedure)
+
         w1 : wordIn (19 * c .frame + 16 + 1) store ≡ k .next
         w1 = word-is _ _ (omega (arith, at)) (r .small) (ap (λ (i : ℕ). getD store (i + 1) 0) place ∙ r .next)
+
         w2 : wordIn (19 * c .frame + 16 + 2) store ≡ k .target
         w2 = word-is _ _ at (omega (arith, target)) (ap (λ (i : ℕ). getD store (i + 2) 0) place ∙ r .target)
+
         slot : 19 * c .frame - 19 + wordIn (19 * c .frame + 16 + 2) store ≡ 19 * m + k .target
         slot = omega (arith, w2)
+
         below : c .frame - 1 ≡ m
         below = omega arith
+
         back : StateAs (closed k ks v s) (movedIn c (c .frame - 1) (wordIn (19 * c .frame + 16) store) (wordIn (19 * c .frame + 16 + 1) store))
             (putIn (19 * c .frame - 19 + wordIn (19 * c .frame + 16 + 2) store) y store) ds
         back =

@@ -68,7 +68,7 @@ command-words at (x ∷ pre) c post j h =
     let at′ = at + length (cmdNodes x) in
     let e : 5 * suc (length pre) + j ≡ length (cmdWords at x) + (5 * length pre + j) = omega (arith, five-words at x) in
     let f : at + length (cmdNodes x) + length (gather cmdNodes pre) ≡ at + length (cmdNodes x ++ gather cmdNodes pre) =
-        omega (arith, length-append (cmdNodes x) (gather cmdNodes pre)) in
+    omega (arith, length-append (cmdNodes x) (gather cmdNodes pre)) in
     ap (λ (n : ℕ). getD (cmdWords at x ++ commandWords at′ (pre ++ c ∷ post)) n 0) e
     ∙ getD-append-add (cmdWords at x) (commandWords at′ (pre ++ c ∷ post)) (5 * length pre + j) 0
     ∙ command-words at′ pre c post j h
@@ -200,7 +200,7 @@ module _ (p : Program) (ok : WellFormed p) where
         let e : 50 + 5 * length pre + j ≡ 50 + (5 * length pre + j) = omega arith in
         ap (λ (n : ℕ). getD (programWords p) n 0) e
         ∙ cmds-at (5 * length pre + j)
-          (omega (arith, commands-length 2610 (allCommands p), ap length all, length-append pre (c ∷ post)))
+        (omega (arith, commands-length 2610 (allCommands p), ap length all, length-append pre (c ∷ post)))
         ∙ ap (λ (l : List (Cmd ℕ)). getD (commandWords 2610 l) (5 * length pre + j) 0) all
         ∙ command-words 2610 pre c post j h
 
@@ -209,13 +209,13 @@ module _ (p : Program) (ok : WellFormed p) where
     command-is =
         let e : 50 + 5 * length pre ≡ 50 + 5 * length pre + 0 = omega arith in
         let w0 : getD (programWords p) (50 + 5 * length pre) 0 ≡ getD (cmdWords (2610 + length (gather cmdNodes pre)) c) 0 0 =
-            ap (λ (n : ℕ). getD (programWords p) n 0) e ∙ word 0 (omega arith) in
+        ap (λ (n : ℕ). getD (programWords p) n 0) e ∙ word 0 (omega arith) in
         simp (lt-ltb (50 + 5 * length pre) 18990 (omega (arith, fewer)))
         (five w0 (word 1 (omega arith)) (word 2 (omega arith)) (word 3 (omega arith)) (word 4 (omega arith)))
       where
         five : {a b d e f a′ b′ d′ e′ f′ : ℕ} → a ≡ a′ → b ≡ b′ → d ≡ d′ → e ≡ e′ → f ≡ f′
             → _≡_ {A = Command} (record { kind = a; target = b; first = d; other = e; second = f })
-              (record { kind = a′; target = b′; first = d′; other = e′; second = f′ })
+            (record { kind = a′; target = b′; first = d′; other = e′; second = f′ })
         five p q r s t = λ i. record { kind = p i; target = q i; first = r i; other = s i; second = t i }
 
     pub nodes-are : drop (2610 + length (gather cmdNodes pre)) (programWords p)
@@ -223,12 +223,12 @@ module _ (p : Program) (ok : WellFormed p) where
     unfolding nodes gather
     nodes-are =
         let g : gather cmdNodes (allCommands p) ≡ gather cmdNodes pre ++ (cmdNodes c ++ gather cmdNodes post) =
-            ap (gather cmdNodes) all ∙ gather-append cmdNodes pre (c ∷ post) in
+        ap (gather cmdNodes) all ∙ gather-append cmdNodes pre (c ∷ post) in
         nodes-at (length (gather cmdNodes pre))
         (omega (arith, ap length g, length-append (gather cmdNodes pre) (cmdNodes c ++ gather cmdNodes post)))
         ∙ ap (λ (l : List ℕ). drop (length (gather cmdNodes pre)) l ++ replicate (16384 - length nodes) 0) g
         ∙ ap (λ (l : List ℕ). l ++ replicate (16384 - length nodes) 0)
-          (drop-append-seam (gather cmdNodes pre) (cmdNodes c ++ gather cmdNodes post))
+        (drop-append-seam (gather cmdNodes pre) (cmdNodes c ++ gather cmdNodes post))
         ∙ append-assoc (cmdNodes c) (gather cmdNodes post) (replicate (16384 - length nodes) 0)
 
 -- the command that stands at a place, with its expressions
@@ -257,8 +257,8 @@ module _ (p : Program) (ok : WellFormed p) (f : ℕ) (there : f < length (p .pro
       let a = bodies (take f (p .procedures)) in
       let r = bodies (drop (suc f) (p .procedures)) in
       let e : bodies (p .procedures) ≡ a ++ (q .body ++ r) =
-          ap (λ (l : List Procedure). bodies l) (split-at (p .procedures) f noProcedure there)
-          ∙ gather-append (λ q. q .body) (take f (p .procedures)) (q ∷ drop (suc f) (p .procedures)) in
+      ap (λ (l : List Procedure). bodies l) (split-at (p .procedures) f noProcedure there)
+      ∙ gather-append (λ q. q .body) (take f (p .procedures)) (q ∷ drop (suc f) (p .procedures)) in
       omega (arith, ok .fewCommands, ap length e, length-append a (q .body ++ r), length-append (q .body) r)
 
   code-word : (i : ℕ) → i < 3 * length (p .procedures) → codeWord (programWords p) (2 + i) ≡ getD (procedureWords 0 (p .procedures)) i 0
@@ -322,8 +322,8 @@ module _ (p : Program) (ok : WellFormed p) (f : ℕ) (there : f < length (p .pro
             at = 2610 + length (gather cmdNodes pre);
             rest = gather cmdNodes post ++ replicate (16384 - length (gather cmdNodes (allCommands p))) 0;
             words =
-              simp (count-is, lt-ltb k (length (procedureAt p f .body)) h, first-is)
-              (ap (λ (n : ℕ). commandIn (programWords p) (50 + 5 * n)) (sym pre-length) ∙ command-is p ok pre cmd post all);
+                simp (count-is, lt-ltb k (length (procedureAt p f .body)) h, first-is)
+                (ap (λ (n : ℕ). commandIn (programWords p) (50 + 5 * n)) (sym pre-length) ∙ command-is p ok pre cmd post all);
             nodes = nodes-are p ok pre cmd post all;
             fits = each-at vanish k h (procedure-fits .commands);
           }

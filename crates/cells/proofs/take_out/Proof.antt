@@ -51,7 +51,7 @@ loop-less c = search needs
 loop-again : tie.Need-loop-again Inv-loop μ-loop
 loop-again c = let len : length (c .before .before .before .before .before .before .before .args .t1) ≡ 32 = search needs in
     let inside : c .before .before .before .before .before .before .loop .i < length (c .before .before .before .before .before .before .before .args .t1) = omega (arith, c .before .before .before .before .before .loop-test .taken) in
-    (ap (λ (w : List (Machine.Cell ℕ)). map cellOf (take (c .before .before .before .before .before .before .loop .n) (c .before .before .before .before .before .before .loop .out)) ++ w) (sym (taken-out (c .before .before .before .before .before .before .loop .i) (c .before .before .before .before .before .before .before .args .held) (c .before .before .before .before .before .before .before .args .t1) (c .before .before .before .before .if1 .left) inside (c .before .before .before .before .before .before .before .args .l .0) (eq-eqb _ _ (c .if2 .taken)))) ∙ c .before .before .before .before .before .before .loop .inv .0, omega (arith, c .before .before .before .before .before .before .loop .inv .1), c .before .before .before .before .before .before .loop .inv .2, omega (arith, c .before .before .before .before .before .loop-test .taken))
+    (ap (λ (w : List (Machine.Cell ℕ)). map cellOf (take (c .before .before .before .before .before .before .loop .n) (c .before .before .before .before .before .before .loop .out)) ++ w) (sym (taken-out (c .before .before .before .before .before .before .loop .i) (c .before .before .before .before .before .before .before .args .held) (c .before .before .before .before .before .before .before .args .t1) (c .before .before .before .before .if1 .left) inside (c .before .before .before .before .before .before .before .args .l .0) (eq-eqb _ _ (sym (c .if2 .taken))))) ∙ c .before .before .before .before .before .before .loop .inv .0, omega (arith, c .before .before .before .before .before .before .loop .inv .1), c .before .before .before .before .before .before .loop .inv .2, omega (arith, c .before .before .before .before .before .loop-test .taken))
 
 -- src/lib.rt:183:9
 mul-out : tie.Need-mul-out Inv-loop μ-loop
@@ -74,7 +74,7 @@ loop-again-2 : tie.Need-loop-again-2 Inv-loop μ-loop
 loop-again-2 c = let len : length (c .before .before .before .before .before .before .before .args .t1) ≡ 32 = search needs in
     let inside : c .before .before .before .before .before .before .loop .i < length (c .before .before .before .before .before .before .before .args .t1) = omega (arith, c .before .before .before .before .before .loop-test .taken) in
     let room : c .before .before .before .before .before .before .loop .n < length (c .before .before .before .before .before .before .loop .out) = omega (arith, c .before .before .before .before .before .before .loop .inv .1, c .before .before .before .before .before .before .loop .inv .2, c .before .before .before .before .before .loop-test .taken) in
-    (sym (kept-more (c .before .before .before .before .before .before .loop .n) (c .before .before .before .before .before .before .loop .out) _ _ room) ∙ ap (λ (w : List (Machine.Cell ℕ)). map cellOf (take (c .before .before .before .before .before .before .loop .n) (c .before .before .before .before .before .before .loop .out)) ++ w) (sym (left-in (c .before .before .before .before .before .before .loop .i) (c .before .before .before .before .before .before .before .args .held) (c .before .before .before .before .before .before .before .args .t1) (c .before .before .before .before .if1 .left) inside (c .before .before .before .before .before .before .before .args .l .0) (ne-eqb _ _ (c .if2 .left)))) ∙ c .before .before .before .before .before .before .loop .inv .0, omega (arith, c .before .before .before .before .before .before .loop .inv .1), simp length-set (c .before .before .before .before .before .before .loop .inv .2), omega (arith, c .before .before .before .before .before .loop-test .taken))
+    (sym (kept-more (c .before .before .before .before .before .before .loop .n) (c .before .before .before .before .before .before .loop .out) _ _ room) ∙ ap (λ (w : List (Machine.Cell ℕ)). map cellOf (take (c .before .before .before .before .before .before .loop .n) (c .before .before .before .before .before .before .loop .out)) ++ w) (sym (left-in (c .before .before .before .before .before .before .loop .i) (c .before .before .before .before .before .before .before .args .held) (c .before .before .before .before .before .before .before .args .t1) (c .before .before .before .before .if1 .left) inside (c .before .before .before .before .before .before .before .args .l .0) (ne-eqb _ _ (λ e. c .if2 .left (sym e))))) ∙ c .before .before .before .before .before .before .loop .inv .0, omega (arith, c .before .before .before .before .before .before .loop .inv .1), simp length-set (c .before .before .before .before .before .before .loop .inv .2), omega (arith, c .before .before .before .before .before .loop-test .taken))
 
 -- src/lib.rt:168:1
 returns-2 : tie.Need-returns-2 Inv-loop μ-loop
