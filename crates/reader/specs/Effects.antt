@@ -55,6 +55,7 @@ module _ {s t t′ code code′ : List ℕ} {out out′ : ℕ} where
     where
       stays : (all more : List Name) → numberIn 16 (withName all w) w ≡ numberIn 16 (withNames all (w ∷ more)) w
       stays all more = sym (number-stays 16 all w more)
+
       is : (all more : List Name) → sets code out (3 ∷ numberIn 16 (withNames all (w ∷ more)) w ∷ []) ≡ sets code out (nodesOf (withNames all (w ∷ more)) (var w))
       is all more = unfold nodesOf exprWords renameExpr in refl
 
@@ -91,10 +92,13 @@ wrote-neg {s} {t} {t′} {code} {code₁} {code′} {out} {out₁} {out′} {e} 
   where
     room : out + exprSize (neg e) ≤ 18994 → out + 2 + exprSize e ≤ 18994
     room h = unfold exprSize in omega arith
+
     placed : out + exprSize (neg e) ≤ 18994 → out₁ ≡ out + 2
     placed h = o ∙ up-room out (omega (arith, room h))
+
     at-size : out + exprSize (neg e) ≤ 18994 → out′ ≡ out + exprSize (neg e)
     at-size h = w .size (omega (arith, room h, placed h)) ∙ (unfold exprSize in omega (arith, placed h))
+
     at-words : (all more : List Name) → Kept s 16 t all → length code ≡ 18994 → out + exprSize (neg e) ≤ 18994 → code′ ≡ sets code out (nodesOf (withNames all (exprVars e ++ more)) (neg e))
     at-words all more k l h =
         w .words all more k (ap length c ∙ node-long code out 4 0 ∙ l) (omega (arith, room h, placed h))
