@@ -110,3 +110,23 @@ withName-first cap ns w h = at (has w ns)
     at : (t : Bool) → take {A = Name} cap (elim t [ true ↦ ns | false ↦ ns ++ (w ∷ []) ]) ≡ take cap ns
     at true = refl
     at false = take-append-le cap ns (w ∷ []) h
+
+-- a name that stands in a list stays where it is when names are added
+pub place-kept : (w : Name) (ns us : List Name) → placeOf w ns < length ns → placeOf w (withNames ns us) ≡ placeOf w ns
+unfolding withNames
+place-kept w ns [] h = refl
+place-kept w ns (u ∷ us) h = at (has u ns) refl (place-kept w (withName ns u) us)
+  where
+    at : (t : Bool) → has u ns ≡ t → (placeOf w (withName ns u) < length (withName ns u) → placeOf w (withNames (withName ns u) us) ≡ placeOf w (withName ns u)) → placeOf w (withNames (withName ns u) us) ≡ placeOf w ns
+    at true e f = let o = withName-old ns u e in f (rw o h) ∙ ap (placeOf w) o
+    at false e f =
+        let o = withName-new ns u e in
+        let p = place-first w ns (u ∷ []) h in
+        f (rw (o, p) (omega (arith, length-append ns (u ∷ [])))) ∙ ap (placeOf w) o ∙ p
+
+pub place-in : (ns : List Name) (w : Name) → placeOf w (withName ns w) < length (withName ns w)
+place-in ns w = at (ltb (placeOf w ns) (length ns)) refl
+  where
+    at : (t : Bool) → ltb (placeOf w ns) (length ns) ≡ t → placeOf w (withName ns w) < length (withName ns w)
+    at true e = let o = withName-old ns w (has-place w ns ∙ e) in rw o (ltb-true (placeOf w ns) (length ns) e)
+    at false e = let o = withName-new ns w (has-place w ns ∙ e) in rw (o, place-new w ns (ltb-false (placeOf w ns) (length ns) e)) (omega (arith, length-append ns (w ∷ [])))

@@ -13,7 +13,7 @@ use Rattle.gil.specs.Text.{same, part}
 use Rattle.gil.specs.Tree.{Name}
 use Rattle.gil.specs.Names.{has, placeOf, withName, withNames}
 use Rattle.tokens.specs.Seen.{nameAt}
-use Rattle.names.specs.Lists.{place-le, has-place, place-take, place-first, place-new, withName-old, withName-new, withName-longer, withName-first, withNames-append}
+use Rattle.names.specs.Lists.{place-le, has-place, place-take, place-first, place-new, withName-old, withName-new, withName-longer, withName-first, withNames-append, place-kept, place-in}
 
 -- the table `t` of at most `cap` names holds the first of `all`, and counts them up to one too many
 pub record Kept (s : List ℕ) (cap : ℕ) (t : List ℕ) (all : List Name) : Type 0 where
@@ -24,6 +24,11 @@ pub record Kept (s : List ℕ) (cap : ℕ) (t : List ℕ) (all : List Name) : Ty
 -- the number of a name by a table that took in all names
 unfoldable pub numberIn : ℕ → List Name → Name → ℕ
 numberIn cap all w = placeOf w (take cap all)
+
+-- a number once given stays
+pub number-stays : (cap : ℕ) (all : List Name) (w : Name) (more : List Name) → numberIn cap (withNames all (w ∷ more)) w ≡ numberIn cap (withName all w) w
+unfolding numberIn withNames
+number-stays cap all w more = place-take w cap (withNames (withName all w) more) ∙ ap (min cap) (place-kept w (withName all w) more (place-in all w)) ∙ sym (place-take w cap (withName all w))
 
 -- what `intern` does to a table, whatever names it has
 pub record Interned (s : List ℕ) (cap : ℕ) (t t′ : List ℕ) (w : Name) (r : ℕ) : Type 0 where

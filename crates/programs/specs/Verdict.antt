@@ -147,6 +147,19 @@ answerBy false false true d = 7
 answerBy false false false true = 8
 answerBy false false false false = 0
 
+five : (a b c d : Bool) → answerBy true a c d ≡ answerBy true b c d
+unfolding answerBy
+five a b c d = refl
+
+-- as the code chooses
+pub answer-chain : (a b c d : Bool) {r₈ r₇ r₆ r : ℕ} → r₈ ≡ elim d [ true ↦ 8 | false ↦ 0 ] → r₇ ≡ elim c [ true ↦ 7 | false ↦ r₈ ] → r₆ ≡ elim b [ true ↦ 6 | false ↦ r₇ ] → r ≡ elim a [ true ↦ 5 | false ↦ r₆ ] → r ≡ answerBy a b c d
+unfolding answerBy
+answer-chain true b c d e f g h = h
+answer-chain false true c d e f g h = h ∙ g
+answer-chain false false true d e f g h = h ∙ g ∙ f
+answer-chain false false false true e f g h = h ∙ g ∙ f ∙ e
+answer-chain false false false false e f g h = h ∙ g ∙ f ∙ e
+
 answer-by : (rs : List (Proc Name)) (n : ℕ) → textAnswer (tested (read rs n)) ≡ answerBy (overLimits rs) (wrongNames rs) (wrongJump rs) (wrongEnd rs)
 unfolding tested
 answer-by rs n = at (overLimits rs) (wrongNames rs) (wrongJump rs) (wrongEnd rs)
@@ -224,35 +237,17 @@ module _ {s props calls procs code code′ : List ℕ} {next np nc : ℕ} {wide 
         ∙ ap (λ (b : Bool). answerBy (ltb 16 np || ltb 512 nc || wide || ltb 32 (getD props 32 0)) (wrongWith (procNames (was-read g h .item)) (gather callsOf (was-read g h .item))) b (wrongEnd (was-read g h .item))) (sym past-is)
         ∙ ap (answerBy (ltb 16 np || ltb 512 nc || wide || ltb 32 (getD props 32 0)) (wrongWith (procNames (was-read g h .item)) (gather callsOf (was-read g h .item))) past) (sym open-is)
 
-    -- the tests in order: `a` is refusal 5's, `b` refusal 6's
-    module _ {a : Bool} (ea : a ≡ ltb 16 np || ltb 512 nc || wide || ltb 32 (getD props 32 0)) where
-      pub answer-5 : a ≡ true → 5 ≡ textAnswer (tested (procedures s))
-      unfolding answerBy
-      answer-5 e = sym (answered ∙ rw (sym ea ∙ e))
+    few : ltb 16 np || ltb 512 nc || wide || ltb 32 (getD props 32 0) ≡ false → np ≤ 16
+    few e = ltb-false 16 np (first (ltb 16 np) (ltb 512 nc) wide (ltb 32 (getD props 32 0)) e)
+      where
+        first : (x y z w : Bool) → x || y || z || w ≡ false → x ≡ false
+        first true y z w f = f
+        first false y z w f = refl
 
-      pub few : a ≡ false → np ≤ 16
-      few e = ltb-false 16 np (first (ltb 16 np) (ltb 512 nc) wide (ltb 32 (getD props 32 0)) (sym ea ∙ e))
-        where
-          first : (x y z w : Bool) → x || y || z || w ≡ false → x ≡ false
-          first true y z w f = f
-          first false y z w f = refl
-
-      module _ (fa : a ≡ false) {b : Bool} (eb : b ≡ wrongWith (procNames (was-read g h .item)) (gather callsOf (was-read g h .item))) where
-        pub answer-6 : b ≡ true → 6 ≡ textAnswer (tested (procedures s))
-        unfolding answerBy
-        answer-6 e = sym (answered ∙ rw (sym ea ∙ fa, sym eb ∙ e))
-
-        pub answer-7 : b ≡ false → past ≡ true → 7 ≡ textAnswer (tested (procedures s))
-        unfolding answerBy
-        answer-7 e f = sym (answered ∙ rw (sym ea ∙ fa, sym eb ∙ e, f))
-
-        pub answer-8 : b ≡ false → past ≡ false → unended ≡ true → 8 ≡ textAnswer (tested (procedures s))
-        unfolding answerBy
-        answer-8 e f i = sym (answered ∙ rw (sym ea ∙ fa, sym eb ∙ e, f, i))
-
-        pub answer-0 : b ≡ false → past ≡ false → unended ≡ false → 0 ≡ textAnswer (tested (procedures s))
-        unfolding answerBy
-        answer-0 e f i = sym (answered ∙ rw (sym ea ∙ fa, sym eb ∙ e, f, i))
+    -- the tests in order: `a` is refusal 5's, `b` refusal 6's, which is asked of few procedures only
+    pub answer-tests : (a b : Bool) (r : ℕ) → a ≡ ltb 16 np || ltb 512 nc || wide || ltb 32 (getD props 32 0) → (np ≤ 16 → b ≡ wrongWith (procNames (was-read g h .item)) (gather callsOf (was-read g h .item))) → r ≡ answerBy a b past unended → r ≡ textAnswer (tested (procedures s))
+    answer-tests true b r e f k = k ∙ five b (wrongWith (procNames (was-read g h .item)) (gather callsOf (was-read g h .item))) past unended ∙ ap (λ (x : Bool). answerBy x (wrongWith (procNames (was-read g h .item)) (gather callsOf (was-read g h .item))) past unended) e ∙ sym answered
+    answer-tests false b r e f k = k ∙ ap (λ (x : Bool). answerBy false x past unended) (f (few (sym e))) ∙ ap (λ (x : Bool). answerBy x (wrongWith (procNames (was-read g h .item)) (gather callsOf (was-read g h .item))) past unended) e ∙ sym answered
 
     pub procs-count : np ≡ length (procNames (was-read g h .item))
     procs-count = tells .counted ∙ sym (unfold procNames in length-map (was-read g h .item) (λ r. r .name))

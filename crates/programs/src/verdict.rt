@@ -1,7 +1,7 @@
 // The refusal of a text: what was counted and flagged while it was read, tested in the order of document 01.
 ghost use mathlib.Core.Path.{_≡_};
 ghost use mathlib.Core.List.{List, []};
-ghost use mathlib.Core.Bool.{_||_};
+ghost use mathlib.Core.Bool.{_||_, true, false};
 ghost use Prim.Native.Nat.{ℕ, _≤_};
 ghost use lib.ListN.{length, replicate, getD};
 ghost use lib.Dec.{ltb};
@@ -70,6 +70,15 @@ fn wrong_names(text: &[u8], count: usize, calls: &[u32; 33], procs: &[u32; 33]) 
     main == n
 }
 
+fn refused_if(test: bool, n: u32, other: u32) -> u32
+    ensures { λ r. ⌜ r ≡ elim test [ true ↦ n | false ↦ other ] ⌝ }
+{
+    if test {
+        return n;
+    }
+    other
+}
+
 // the refusal of a text that was read, or 0
 fn refusal(text: &[u8], t: Tally, props: &[u32; 33], calls: &[u32; 33], procs: &[u32; 33]) -> u32
     ensures { λ r. ⌜ ((code code′ : List ℕ) → Goes (now (text .entry)) 1 (Tells (now (text .entry)) (replicate 33 0) (now (props .entry)) (replicate 33 0) (now (calls .entry)) (replicate 33 0) (now (procs .entry)) code code′ (t .procs) (t .commands) (t .wide) (t .past) (t .unended)) (procedures (now (text .entry))) (t .next) → r ≡ textAnswer (tested (procedures (now (text .entry))))) ⌝ }
@@ -77,19 +86,10 @@ fn refusal(text: &[u8], t: Tally, props: &[u32; 33], calls: &[u32; 33], procs: &
     if t.next > text.len() {
         return 4;
     }
-    if over_limits(t.procs, t.commands, t.wide, props[32]) {
-        return 5;
-    }
-    if wrong_names(text, t.procs, calls, procs) {
-        return 6;
-    }
-    if t.past {
-        return 7;
-    }
-    if t.unended {
-        return 8;
-    }
-    0
+    let over = over_limits(t.procs, t.commands, t.wide, props[32]);
+    let wrong = wrong_names(text, t.procs, calls, procs);
+    let rest = refused_if(t.past, 7, refused_if(t.unended, 8, 0));
+    refused_if(over, 5, refused_if(wrong, 6, rest))
 }
 
 // Reads a text into the words of its program. The answer is the text's refusal, or 0.

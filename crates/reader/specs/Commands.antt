@@ -147,7 +147,7 @@ module _ (s : List ℕ) (at : ℕ) (v : Name) where
   value-token : (t : Token) {k u : ℕ} → Seen s t k u → (exprFrom (exprDeep 7) t ≡ nothing → faulty ≡ assignment v s at) → valueFrom v t s at ≡ valueBy v k u s at
   unfolding valueFrom valueBy valueBySite exprFrom nothing
   value-token t (aWord p st) h = value-word st h
-  value-token t (aProperty f g) h = h refl
+  value-token t (aProperty f) h = h refl
   value-token t becoming h = h refl
   value-token t {k} {u} (aMark l) h = ap (λ (r : Reader (Cmd Name)). r s at) (sym (value-low k u l))
   value-token t theEnd h = h refl
@@ -229,7 +229,7 @@ command-key s v kDispose = refl
 
 command-word : (s : List ℕ) {w : List ℕ} {place : ℕ} {t : Word} {k v : ℕ} → Placed s w place → Stands w place t k v → commandWord t ≡ commandBy s k v
 unfolding commandWord commandBy
-command-word s p (aName h) = ap settingOf (sym (p h .0))
+command-word s p (aName h) = ap settingOf (sym (p h))
 command-word s p aNumber = refl
 command-word s p aUSite = refl
 command-word s p anISite = refl
@@ -243,7 +243,7 @@ command-none s k v a b c d e = rw (ne-eqb k 256 a, commandBy) (rw (ne-eqb k 272 
 command-by : {s : List ℕ} {t : Token} {k v : ℕ} → Seen s t k v → commandWord (asWord t) ≡ commandBy s k v
 unfolding commandWord commandBy asWord
 command-by {s} (aWord p st) = command-word s p st
-command-by (aProperty f g) = refl
+command-by (aProperty f) = refl
 command-by becoming = refl
 command-by {s} {k = k} {v = v} (aMark l) = sym (command-none s k v (λ z. omega arith) (λ z. omega arith) (λ z. omega arith) (λ z. omega arith) (λ z. omega arith))
 command-by theEnd = refl

@@ -2,38 +2,176 @@
 use Prim.Native.Nat.{ℕ, zero, suc, _+_, _-_, _≤_}
 use mathlib.Core.Path.{_≡_, refl, sym, ap, _∙_, subst}
 use mathlib.Core.Bool.{Bool, true, false}
-use mathlib.Core.List.{List, [], _∷_, _++_}
+use mathlib.Core.List.{List, [], _∷_, _++_, append-assoc}
+use native.Mathlib.Omega.{arith}
+use lib.ListN.{length, length-append}
+use lib.Seq.{sets}
 use Rattle.gil.specs.Tree.{Op, Expr, num, bool, var, neg, bin, Cmd, assign, ifgoto, call, lookup, mutate, dispose, uSym, iSym, return, fail, vanish, Name}
-use Rattle.gil.specs.Names.{exprVars, cmdVars, cmdProperties, cmdCalls, isEnd}
+use Rattle.gil.specs.Names.{exprVars, cmdVars, cmdProperties, cmdCalls, isEnd, renameExpr, withName, withNames}
 use Rattle.code.specs.Code as Code
-use Rattle.names.specs.Tables.{Kept, Interned, Grows, grows-none, grows-one, grows-then}
-use Rattle.reader.specs.Stores.{putNode, putCommand, upFrom}
+use Rattle.code.specs.Code.{exprWords}
+use Rattle.gil.specs.Layout.{bit}
+use Rattle.names.specs.Lists.{withNames-append}
+use Rattle.names.specs.Tables.{Kept, Interned, Grows, grows-none, grows-one, grows-then, numberIn, number-stays}
+use Rattle.reader.specs.Stores.{putNode, putCommand, upFrom, node-long, node-sets, up-room, sets-append, node-before}
 
--- an expression: its variables, in the table `t`, and its words, from `out` on
+-- how many words an expression takes
+unfoldable pub exprSize : Expr Name → ℕ
+exprSize (num n) = 2
+exprSize (bool b) = 2
+exprSize (var x) = 2
+exprSize (neg e) = 2 + exprSize e
+exprSize (bin o a b) = 2 + exprSize a + exprSize b
+
+-- an expression's words, its variables numbered by a table that took in `all` names
+unfoldable pub nodesOf : List Name → Expr Name → List ℕ
+nodesOf all e = exprWords (renameExpr (numberIn 16 all) e)
+
+pub nodes-size : (all : List Name) (e : Expr Name) → length (nodesOf all e) ≡ exprSize e
+unfolding nodesOf exprSize exprWords renameExpr
+nodes-size all (num n) = refl
+nodes-size all (bool b) = refl
+nodes-size all (var x) = refl
+nodes-size all (neg e) = let h = nodes-size all e in omega arith
+nodes-size all (bin o a b) = let h = nodes-size all a in let k = nodes-size all b in omega (arith, length-append (exprWords (renameExpr (numberIn 16 all) a)) (exprWords (renameExpr (numberIn 16 all) b)))
+
+-- an expression: its variables, in the table `t`, and its words, from `out` on; `more` are the names that the table takes in later
 pub record Wrote (s t t′ code code′ : List ℕ) (out out′ : ℕ) (e : Expr Name) : Type 0 where
   pub vars : Grows s 16 t t′ (exprVars e)
+  pub long : length code′ ≡ length code
+  pub size : out + exprSize e ≤ 18994 → out′ ≡ out + exprSize e
+  pub words : (all more : List Name) → Kept s 16 t all → length code ≡ 18994 → out + exprSize e ≤ 18994 → code′ ≡ sets code out (nodesOf (withNames all (exprVars e ++ more)) e)
 
 module _ {s t t′ code code′ : List ℕ} {out out′ : ℕ} where
   pub wrote-var : {w : Name} {r : ℕ} → Interned s 16 t t′ w r → out′ ≡ upFrom out → code′ ≡ putNode code out 3 r → Wrote s t t′ code code′ out out′ (var w)
-  unfolding exprVars
-  wrote-var i o c = record { vars = grows-one i }
+  unfolding exprVars exprSize
+  wrote-var {w} {r} i o c =
+      record {
+        vars = grows-one i;
+        long = ap length c ∙ node-long code out 3 r;
+        size = λ h. o ∙ up-room out h;
+        words = λ all more k l h. c ∙ node-sets code out 3 r l ∙ ap (λ (n : ℕ). sets code out (3 ∷ n ∷ [])) (i .number all k ∙ stays all more) ∙ is all more;
+      }
+    where
+      stays : (all more : List Name) → numberIn 16 (withName all w) w ≡ numberIn 16 (withNames all (w ∷ more)) w
+      stays all more = sym (number-stays 16 all w more)
+
+      is : (all more : List Name) → sets code out (3 ∷ numberIn 16 (withNames all (w ∷ more)) w ∷ []) ≡ sets code out (nodesOf (withNames all (w ∷ more)) (var w))
+      is all more = unfold nodesOf exprWords renameExpr in refl
 
 module _ {s t code code′ : List ℕ} {out out′ : ℕ} where
   pub wrote-num : (n : ℕ) → out′ ≡ upFrom out → code′ ≡ putNode code out 1 n → Wrote s t t code code′ out out′ (num n)
-  unfolding exprVars
-  wrote-num n o c = record { vars = grows-none }
+  unfolding exprVars exprSize nodesOf exprWords renameExpr
+  wrote-num n o c =
+      record {
+        vars = grows-none;
+        long = ap length c ∙ node-long code out 1 n;
+        size = λ h. o ∙ up-room out h;
+        words = λ all more k l h. c ∙ node-sets code out 1 n l;
+      }
 
-  pub wrote-bool : (b : Bool) (v : ℕ) → out′ ≡ upFrom out → code′ ≡ putNode code out 2 v → Wrote s t t code code′ out out′ (bool b)
-  unfolding exprVars
-  wrote-bool b v o c = record { vars = grows-none }
+  pub wrote-bool : (b : Bool) (v : ℕ) → v ≡ bit b → out′ ≡ upFrom out → code′ ≡ putNode code out 2 v → Wrote s t t code code′ out out′ (bool b)
+  unfolding exprVars exprSize nodesOf exprWords renameExpr
+  wrote-bool b v z o c =
+      record {
+        vars = grows-none;
+        long = ap length c ∙ node-long code out 2 v;
+        size = λ h. o ∙ up-room out h;
+        words = λ all more k l h. c ∙ node-sets code out 2 v l ∙ ap (λ (n : ℕ). sets code out (2 ∷ n ∷ [])) z;
+      }
 
 pub wrote-neg : {s t t′ code code₁ code′ : List ℕ} {out out₁ out′ : ℕ} {e : Expr Name} → code₁ ≡ putNode code out 4 0 → out₁ ≡ upFrom out → Wrote s t t′ code₁ code′ out₁ out′ e → Wrote s t t′ code code′ out out′ (neg e)
 unfolding exprVars
-wrote-neg c o w = record { vars = w .vars }
+wrote-neg {s} {t} {t′} {code} {code₁} {code′} {out} {out₁} {out′} {e} c o w =
+    record {
+      vars = w .vars;
+      long = w .long ∙ ap length c ∙ node-long code out 4 0;
+      size = at-size;
+      words = at-words;
+    }
+  where
+    room : out + exprSize (neg e) ≤ 18994 → out + 2 + exprSize e ≤ 18994
+    room h = unfold exprSize in omega arith
 
-pub wrote-bin : {s t t₁ t′ code code₁ code₂ code′ : List ℕ} {out out₀ out₁ out′ len : ℕ} {op : ℕ} {a b : Expr Name} (o : Op) → out₀ ≡ upFrom out → Wrote s t t₁ code code₁ out₀ out₁ a → op ≡ Code.opWord o → code₂ ≡ putNode code₁ out op len → (out + 2 ≤ out₁ → len ≡ out₁ - (out + 2)) → Wrote s t₁ t′ code₂ code′ out₁ out′ b → Wrote s t t′ code code′ out out′ (bin o a b)
-unfolding exprVars
-wrote-bin o u wa q c l wb = record { vars = grows-then (wa .vars) (wb .vars) }
+    placed : out + exprSize (neg e) ≤ 18994 → out₁ ≡ out + 2
+    placed h = o ∙ up-room out (omega (arith, room h))
+
+    at-size : out + exprSize (neg e) ≤ 18994 → out′ ≡ out + exprSize (neg e)
+    at-size h = w .size (omega (arith, room h, placed h)) ∙ (unfold exprSize in omega (arith, placed h))
+
+    at-words : (all more : List Name) → Kept s 16 t all → length code ≡ 18994 → out + exprSize (neg e) ≤ 18994 → code′ ≡ sets code out (nodesOf (withNames all (exprVars e ++ more)) (neg e))
+    at-words all more k l h =
+        w .words all more k (ap length c ∙ node-long code out 4 0 ∙ l) (omega (arith, room h, placed h))
+        ∙ ap (λ (n : ℕ). sets code₁ n (nodesOf (withNames all (exprVars e ++ more)) e)) (placed h)
+        ∙ ap (λ (x : List ℕ). sets x (out + 2) (nodesOf (withNames all (exprVars e ++ more)) e)) (c ∙ node-sets code out 4 0 l)
+        ∙ (let d : out + 2 ≡ suc (suc out) = omega arith in ap (λ (n : ℕ). sets (sets code out (4 ∷ 0 ∷ [])) n (nodesOf (withNames all (exprVars e ++ more)) e)) d)
+        ∙ (unfold nodesOf exprWords renameExpr in refl)
+
+-- an operator's node stands before the words of its operands, and is stored between them
+module _ {s t t₁ t′ code code₁ code₂ code′ : List ℕ} {out₀ out₁ out′ len op : ℕ} {a b : Expr Name} (out : ℕ) (o : Op) (u : out₀ ≡ upFrom out) (wa : Wrote s t t₁ code code₁ out₀ out₁ a) (q : op ≡ Code.opWord o) (c : code₂ ≡ putNode code₁ out op len) (l : out + 2 ≤ out₁ → len ≡ out₁ - (out + 2)) (wb : Wrote s t₁ t′ code₂ code′ out₁ out′ b) where
+  room : out + exprSize (bin o a b) ≤ 18994 → out + 2 + exprSize a + exprSize b ≤ 18994
+  unfolding exprSize
+  room h = omega arith
+
+  start : out + exprSize (bin o a b) ≤ 18994 → out₀ ≡ out + 2
+  start h = u ∙ up-room out (omega (arith, room h))
+
+  middle : out + exprSize (bin o a b) ≤ 18994 → out₁ ≡ out + 2 + exprSize a
+  middle h = let z = start h in wa .size (omega (arith, room h)) ∙ omega arith
+
+  end : out + exprSize (bin o a b) ≤ 18994 → out′ ≡ out + exprSize (bin o a b)
+  unfolding exprSize
+  end h = let z = middle h in wb .size (omega (arith, room h)) ∙ omega arith
+
+  long₂ : length code₂ ≡ length code
+  long₂ = ap length c ∙ node-long code₁ out op len ∙ wa .long
+
+  module _ (all more : List Name) (k : Kept s 16 t all) (lc : length code ≡ 18994) (h : out + exprSize (bin o a b) ≤ 18994) where
+    first-words : code₁ ≡ sets code (out + 2) (nodesOf (withNames all (exprVars a ++ (exprVars b ++ more))) a)
+    first-words = let z = start h in wa .words all (exprVars b ++ more) k lc (omega (arith, room h)) ∙ ap (λ (n : ℕ). sets code n (nodesOf (withNames all (exprVars a ++ (exprVars b ++ more))) a)) z
+
+    counted : len ≡ exprSize a
+    counted = let z = middle h in l (omega arith) ∙ omega arith
+
+    both-words : code₂ ≡ sets code out (op ∷ len ∷ nodesOf (withNames all (exprVars a ++ (exprVars b ++ more))) a)
+    both-words = c ∙ node-sets code₁ out op len (wa .long ∙ lc) ∙ ap (λ (x : List ℕ). sets x out (op ∷ len ∷ [])) first-words ∙ node-before code out op len (nodesOf (withNames all (exprVars a ++ (exprVars b ++ more))) a)
+
+    second-words : code′ ≡ sets code₂ (out + 2 + exprSize a) (nodesOf (withNames all (exprVars a ++ (exprVars b ++ more))) b)
+    second-words =
+        let z = middle h in
+        wb .words (withNames all (exprVars a)) more (wa .vars .kept all k) (long₂ ∙ lc) (omega (arith, room h))
+        ∙ ap (λ (n : ℕ). sets code₂ n (nodesOf (withNames (withNames all (exprVars a)) (exprVars b ++ more)) b)) z
+        ∙ ap (λ (ns : List Name). sets code₂ (out + 2 + exprSize a) (nodesOf ns b)) (sym (withNames-append all (exprVars a) (exprVars b ++ more)))
+
+    joined : code′ ≡ sets code out (op ∷ len ∷ (nodesOf (withNames all (exprVars a ++ (exprVars b ++ more))) a ++ nodesOf (withNames all (exprVars a ++ (exprVars b ++ more))) b))
+    joined =
+        let z : out + 2 + exprSize a ≡ out + length (op ∷ len ∷ nodesOf (withNames all (exprVars a ++ (exprVars b ++ more))) a) = omega (arith, nodes-size (withNames all (exprVars a ++ (exprVars b ++ more))) a) in
+        second-words
+        ∙ ap (λ (x : List ℕ). sets x (out + 2 + exprSize a) (nodesOf (withNames all (exprVars a ++ (exprVars b ++ more))) b)) both-words
+        ∙ ap (λ (n : ℕ). sets (sets code out (op ∷ len ∷ nodesOf (withNames all (exprVars a ++ (exprVars b ++ more))) a)) n (nodesOf (withNames all (exprVars a ++ (exprVars b ++ more))) b)) z
+        ∙ sym (sets-append code out (op ∷ len ∷ nodesOf (withNames all (exprVars a ++ (exprVars b ++ more))) a) (nodesOf (withNames all (exprVars a ++ (exprVars b ++ more))) b))
+
+    node-is : (ns : List Name) → Code.opWord o ∷ length (nodesOf ns a) ∷ (nodesOf ns a ++ nodesOf ns b) ≡ nodesOf ns (bin o a b)
+    unfolding nodesOf exprWords renameExpr
+    node-is ns = refl
+
+    whole : code′ ≡ sets code out (nodesOf (withNames all (exprVars (bin o a b) ++ more)) (bin o a b))
+    whole =
+        let ns = withNames all (exprVars a ++ (exprVars b ++ more)) in
+        joined
+        ∙ ap (λ (i : ℕ). sets code out (i ∷ len ∷ (nodesOf ns a ++ nodesOf ns b))) q
+        ∙ ap (λ (i : ℕ). sets code out (Code.opWord o ∷ i ∷ (nodesOf ns a ++ nodesOf ns b))) (counted ∙ sym (nodes-size ns a))
+        ∙ ap (sets code out) (node-is ns)
+        ∙ ap (λ (ws : List Name). sets code out (nodesOf (withNames all ws) (bin o a b))) grouped
+      where
+        grouped : exprVars a ++ (exprVars b ++ more) ≡ exprVars (bin o a b) ++ more
+        grouped = unfold exprVars in sym (append-assoc (exprVars a) (exprVars b) more)
+
+  pub wrote-bin : Wrote s t t′ code code′ out out′ (bin o a b)
+  wrote-bin = record { vars = together; long = wb .long ∙ long₂; size = end; words = whole }
+    where
+      together : Grows s 16 t t′ (exprVars (bin o a b))
+      together = unfold exprVars in grows-then (wa .vars) (wb .vars)
 
 -- one more than the number that a command jumps to
 unfoldable pub jumpAt : Cmd Name → ℕ

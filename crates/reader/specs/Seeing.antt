@@ -1,5 +1,5 @@
 -- What a token's kind says of the readers of the definitions: one law for each form and each answer. Assumes nothing.
-use Prim.Native.Nat.{ℕ, suc, _+_, _≤_, _<_, _/_, _%_}
+use Prim.Native.Nat.{ℕ, suc, _+_, _≤_, _<_}
 use mathlib.Core.Path.{_≡_, refl, sym, ap, _∙_, subst}
 use mathlib.Core.Bool.{Bool, true, false}
 use mathlib.Core.List.{List}
@@ -44,7 +44,7 @@ words-high (aKey {k = k}) = omega (arith, keys-high k)
 pub mark-is : {s : List ℕ} {t : Token} {k v : ℕ} (b : ℕ) → Seen s t k v → b < 256 → isMark b t ≡ eqb b k
 unfolding isMark
 mark-is {k = k} b (aWord f st) h = sym (ne-eqb b k (λ e. omega (arith, words-high st .0)))
-mark-is b (aProperty f g) h = sym (ne-eqb b 261 (λ e. omega arith))
+mark-is b (aProperty f) h = sym (ne-eqb b 261 (λ e. omega arith))
 mark-is b becoming h = sym (ne-eqb b 262 (λ e. omega arith))
 mark-is b (aMark l) h = refl
 mark-is b theEnd h = sym (ne-eqb b 263 (λ e. omega arith))
@@ -52,7 +52,7 @@ mark-is b theEnd h = sym (ne-eqb b 263 (λ e. omega arith))
 pub becomes-is : {s : List ℕ} {t : Token} {k v : ℕ} → Seen s t k v → isBecomes t ≡ eqb k 262
 unfolding isBecomes
 becomes-is {k = k} (aWord f st) = sym (ne-eqb k 262 (words-high st .2))
-becomes-is (aProperty f g) = refl
+becomes-is (aProperty f) = refl
 becomes-is becoming = refl
 becomes-is {k = k} (aMark l) = sym (ne-eqb k 262 (λ e. omega arith))
 becomes-is theEnd = refl
@@ -60,7 +60,7 @@ becomes-is theEnd = refl
 pub ended-is : {s : List ℕ} {t : Token} {k v : ℕ} → Seen s t k v → isEnded t ≡ eqb k 263
 unfolding isEnded
 ended-is {k = k} (aWord f st) = sym (ne-eqb k 263 (words-high st .3))
-ended-is (aProperty f g) = refl
+ended-is (aProperty f) = refl
 ended-is becoming = refl
 ended-is {k = k} (aMark l) = sym (ne-eqb k 263 (λ e. omega arith))
 ended-is theEnd = refl
@@ -104,11 +104,11 @@ exprBy s e k v =
 
 -- a name's place, where the run is short enough to have one
 abbrev pub Placed : List ℕ → List ℕ → ℕ → Type 0
-Placed s w place = length w ≤ 16 → (nameAt s place ≡ w) × (place / 32 + place % 32 ≤ length s)
+Placed s w place = length w ≤ 16 → nameAt s place ≡ w
 
 name-word : (s : List ℕ) {w : List ℕ} {place : ℕ} {t : Word} {k v : ℕ} → Placed s w place → Stands w place t k v → nameOf t ≡ nameBy s k v
 unfolding nameOf nameBy keyKind
-name-word s p (aName h) = ap done (sym (p h .0))
+name-word s p (aName h) = ap done (sym (p h))
 name-word s p aNumber = refl
 name-word s p aUSite = refl
 name-word s p anISite = refl
@@ -118,7 +118,7 @@ name-word s p (aKey {k = k}) = rw (ne-eqb (keyKind k) 256 (λ e. omega (arith, k
 pub name-by : {s : List ℕ} {t : Token} {k v : ℕ} → Seen s t k v → nameOf (asWord t) ≡ nameBy s k v
 unfolding nameOf nameBy asWord
 name-by {s} (aWord p st) = name-word s p st
-name-by (aProperty f g) = refl
+name-by (aProperty f) = refl
 name-by becoming = refl
 name-by {k = k} (aMark l) = rw (ne-eqb k 256 (λ e. omega arith), nameBy)
 name-by theEnd = refl
@@ -135,7 +135,7 @@ number-word (aKey {k = k}) = rw (ne-eqb (keyKind k) 257 (λ e. omega (arith, key
 pub number-by : {s : List ℕ} {t : Token} {k v : ℕ} → Seen s t k v → numberOf (asWord t) ≡ numberBy k v
 unfolding numberOf numberBy asWord
 number-by (aWord p st) = number-word st
-number-by (aProperty f g) = refl
+number-by (aProperty f) = refl
 number-by becoming = refl
 number-by {k = k} (aMark l) = rw (ne-eqb k 257 (λ e. omega arith), numberBy)
 number-by theEnd = refl
@@ -143,7 +143,7 @@ number-by theEnd = refl
 pub property-by : {s : List ℕ} {t : Token} {k v : ℕ} → Seen s t k v → propertyOf t ≡ propertyBy s k v
 unfolding propertyOf propertyBy
 property-by {k = k} (aWord p st) = rw (ne-eqb k 261 (words-high st .1), propertyBy)
-property-by (aProperty f g) = ap done (sym f)
+property-by (aProperty f) = ap done (sym f)
 property-by becoming = refl
 property-by {k = k} (aMark l) = rw (ne-eqb k 261 (λ e. omega arith), propertyBy)
 property-by theEnd = refl
@@ -180,7 +180,7 @@ op-low k h = rw (ne-eqb k 279 (λ e. omega arith), opByKey) (rw (ne-eqb k 280 (�
 pub op-by : {s : List ℕ} {t : Token} {k v : ℕ} → Seen s t k v → opOf t ≡ opBy k
 unfolding opOf opBy opByKey opMark
 op-by (aWord p st) = op-word st
-op-by (aProperty f g) = refl
+op-by (aProperty f) = refl
 op-by becoming = refl
 op-by {k = k} (aMark l) = at (eqb k 43) (eqb k 45) (eqb k 61) (eqb k 60)
   where
@@ -209,7 +209,7 @@ expr-key e s v kDispose = refl
 
 expr-word : (s : List ℕ) {w : List ℕ} {place : ℕ} {t : Word} {k v : ℕ} (e : Reader (Expr Name)) → Placed s w place → Stands w place t k v → exprWord e t ≡ exprBy s e k v
 unfolding exprWord exprBy exprByKey
-expr-word s e p (aName h) = ap (λ (w : Name). done (var w)) (sym (p h .0))
+expr-word s e p (aName h) = ap (λ (w : Name). done (var w)) (sym (p h))
 expr-word s e p aNumber = refl
 expr-word s e p aUSite = refl
 expr-word s e p anISite = refl
@@ -223,7 +223,7 @@ expr-low e k h = rw (ne-eqb k 276 (λ z. omega arith), exprByKey) (rw (ne-eqb k 
 pub expr-by : {s : List ℕ} {t : Token} {k v : ℕ} (e : Reader (Expr Name)) → Seen s t k v → exprFrom e t ≡ exprBy s e k v
 unfolding exprFrom exprBy exprByKey
 expr-by {s} e (aWord p st) = expr-word s e p st
-expr-by e (aProperty f g) = refl
+expr-by e (aProperty f) = refl
 expr-by e becoming = refl
 expr-by {s} {k = k} {v = v} e (aMark l) = at (eqb k 40) ∙ sym low
   where

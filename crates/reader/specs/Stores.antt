@@ -1,9 +1,14 @@
 -- Stores into the words of a program, and their laws. Assumes nothing.
-use Prim.Native.Nat.{ℕ, _+_, _*_, _≤_, _<_}
-use mathlib.Core.Path.{_≡_}
+use Prim.Native.Nat.{ℕ, suc, _+_, _*_, _≤_, _<_}
+use mathlib.Core.Path.{_≡_, refl, sym, ap, _∙_}
 use mathlib.Core.Bool.{Bool, true, false}
-use mathlib.Core.List.{List}
-use lib.ListN.{set}
+use mathlib.Core.List.{List, [], _∷_, _++_}
+use native.Mathlib.Omega.{arith}
+use native.Mathlib.Numerals.{add-one}
+use native.Mathlib.Nat.{add-zero}
+use borrow.Author.Tests.{lt-ltb, ltb-false}
+use lib.ListN.{length, set, length-set}
+use lib.Seq.{sets, set-out, set-comm}
 use lib.Dec.{ltb}
 
 unfoldable pub put : List ℕ → ℕ → ℕ → List ℕ
@@ -28,3 +33,49 @@ putProcedure ws n first variables commands =
 -- stores in a row
 pub five : (ws : List ℕ) {w₁ w₂ w₃ w₄ w₅ : List ℕ} (at a b c d e : ℕ) → w₁ ≡ put ws at a → w₂ ≡ put w₁ (at + 1) b → w₃ ≡ put w₂ (at + 2) c → w₄ ≡ put w₃ (at + 3) d → w₅ ≡ put w₄ (at + 4) e → w₅ ≡ put (put (put (put (put ws at a) (at + 1) b) (at + 2) c) (at + 3) d) (at + 4) e
 five ws at a b c d e f g h i j = cc
+
+-- within the words a store is a store, and keeps their length
+put-long : (ws : List ℕ) (at v : ℕ) → length (put ws at v) ≡ length ws
+unfolding put
+put-long ws at v = pick (ltb at 18994)
+  where
+    pick : (b : Bool) → length {A = ℕ} (elim b [ true ↦ set ws at v | false ↦ ws ]) ≡ length ws
+    pick true = length-set ws at v
+    pick false = refl
+
+put-set : (ws : List ℕ) (at v : ℕ) → length ws ≡ 18994 → put ws at v ≡ set ws at v
+unfolding put
+put-set ws at v l = pick (ltb at 18994) refl
+  where
+    pick : (b : Bool) → ltb at 18994 ≡ b → _≡_ {A = List ℕ} (elim b [ true ↦ set ws at v | false ↦ ws ]) (set ws at v)
+    pick true e = refl
+    pick false e = sym (set-out ws at v (omega (arith, ltb-false at 18994 e)))
+
+pub node-long : (ws : List ℕ) (at kind v : ℕ) → length (putNode ws at kind v) ≡ length ws
+unfolding putNode
+node-long ws at kind v = put-long (put ws at kind) (at + 1) v ∙ put-long ws at kind
+
+pub node-sets : (ws : List ℕ) (at kind v : ℕ) → length ws ≡ 18994 → putNode ws at kind v ≡ sets ws at (kind ∷ v ∷ [])
+unfolding putNode
+node-sets ws at kind v l = put-set (put ws at kind) (at + 1) v (put-long ws at kind ∙ l) ∙ ap (λ (x : List ℕ). set x (at + 1) v) (put-set ws at kind l) ∙ ap (λ (n : ℕ). set (set ws at kind) n v) (add-one at)
+
+pub up-room : (at : ℕ) → at + 2 ≤ 18994 → upFrom at ≡ at + 2
+unfolding upFrom
+up-room at h = rw (lt-ltb at 18994 (omega arith), upFrom)
+
+-- runs of stores
+pub sets-append : (l : List ℕ) (i : ℕ) (a b : List ℕ) → sets l i (a ++ b) ≡ sets (sets l i a) (i + length a) b
+sets-append l i [] b = ap (λ (n : ℕ). sets l n b) (sym (add-zero i))
+sets-append l i (x ∷ a) b = sets-append (set l i x) (suc i) a b ∙ (let e : suc i + length a ≡ i + suc (length a) = omega arith in ap (λ (n : ℕ). sets (sets (set l i x) (suc i) a) n b) e)
+
+pub set-sets : (l : List ℕ) (i v j : ℕ) (ws : List ℕ) → i < j → set (sets l j ws) i v ≡ sets (set l i v) j ws
+set-sets l i v j [] h = refl
+set-sets l i v j (x ∷ ws) h = set-sets (set l j x) i v (suc j) ws (omega arith) ∙ ap (λ (m : List ℕ). sets m (suc j) ws) (set-comm l j i x v (λ e. omega arith))
+
+-- a node before the words of its operands
+pub node-before : (l : List ℕ) (at kind v : ℕ) (ws : List ℕ) → sets (sets l (at + 2) ws) at (kind ∷ v ∷ []) ≡ sets l at (kind ∷ v ∷ ws)
+node-before l at kind v ws =
+    let e : at + 2 ≡ suc (suc at) = omega arith in
+    ap (λ (n : ℕ). sets (sets l n ws) at (kind ∷ v ∷ [])) e
+    ∙ ap (λ (m : List ℕ). set m (suc at) v) (set-sets l at kind (suc (suc at)) ws (omega arith))
+    ∙ set-sets (set l at kind) (suc at) v (suc (suc at)) ws (omega arith)

@@ -22,8 +22,8 @@ unfoldable pub nameAt : List ℕ → ℕ → List ℕ
 nameAt s place = part s (place / 32) (place % 32)
 
 pub data Seen (s : List ℕ) : Token → ℕ → ℕ → Type 0 where
-  aWord : {w : List ℕ} {place k v : ℕ} → (length w ≤ 16 → (nameAt s place ≡ w) × (place / 32 + place % 32 ≤ length s)) → Stands w place (wordOf w) k v → Seen s (word w) k v
-  aProperty : {p : List ℕ} {v : ℕ} → nameAt s v ≡ p → v / 32 + v % 32 ≤ length s → Seen s (property p) 261 v
+  aWord : {w : List ℕ} {place k v : ℕ} → (length w ≤ 16 → nameAt s place ≡ w) → Stands w place (wordOf w) k v → Seen s (word w) k v
+  aProperty : {p : List ℕ} {v : ℕ} → nameAt s v ≡ p → Seen s (property p) 261 v
   becoming : {v : ℕ} → Seen s becomes 262 v
   aMark : {b v : ℕ} → b < 256 → Seen s (mark b) b v
   theEnd : {v : ℕ} → Seen s ended 263 v
@@ -37,12 +37,12 @@ pub record Found (s : List ℕ) (at : ℕ) (l : Lexeme) (k v n : ℕ) : Type 0 w
   pub within : at ≤ length s → n ≤ length s
   pub ends : length s ≤ at → k ≡ 263
 
-pub place-is : (s : List ℕ) (start n r : ℕ) → n ≤ 16 → r ≡ start * 32 + n → start + n ≤ length s → (nameAt s r ≡ part s start n) × (r / 32 + r % 32 ≤ length s)
+place-is : (s : List ℕ) (start n r : ℕ) → n ≤ 16 → r ≡ start * 32 + n → nameAt s r ≡ part s start n
 unfolding nameAt
-place-is s start n r h e l =
+place-is s start n r h e =
     let a : r / 32 ≡ start = omega arith in
     let b : r % 32 ≡ n = omega arith in
-    (rw (a, b), rw (a, b) l)
+    rw (a, b)
 
 pub span-fits : (p : ℕ → Bool) (l : List ℕ) → span p l ≤ length l
 unfolding span
@@ -162,7 +162,7 @@ module _ (s : List ℕ) (i : ℕ) (h : i < length s) where
     found-property q a b w =
         rw lexed
         (record {
-          seen = aProperty (named .0) (named .1);
+          seen = aProperty named;
           next = omega arith;
           on = omega arith;
           more = λ m. omega arith;
@@ -170,8 +170,8 @@ module _ (s : List ℕ) (i : ℕ) (h : i < length s) where
           ends = λ m. absurd (omega arith);
         })
       where
-        named : (nameAt s v ≡ part s (suc i) n) × (v / 32 + v % 32 ≤ length s)
-        named = place-is s (suc i) n v (omega arith) (omega arith) (omega arith)
+        named : nameAt s v ≡ part s (suc i) n
+        named = place-is s (suc i) n v (omega arith) (omega arith)
 
         lexed : tokenFrom s i (drop i s) ≡ record { token = property (part s (suc i) n); next = suc (suc (i + n)) }
         lexed = unfold quoted in quote-then ∙ rw (eq-eqb (getD s (suc i + n) 0) 34 (rw add-one at q), le-leb 1 n a, le-leb n 16 (omega arith), quoted)
@@ -207,7 +207,7 @@ module _ (s : List ℕ) (i : ℕ) (h : i < length s) where
   found-run place k v end r e p w =
       rw lexed
       (record {
-        seen = aWord (λ q. place-is s i (end - i) place (long q) (p (long q)) (omega (arith, fits))) w;
+        seen = aWord (λ q. place-is s i (end - i) place (long q) (p (long q))) w;
         next = omega arith;
         on = omega arith;
         more = λ m. omega (arith, one);

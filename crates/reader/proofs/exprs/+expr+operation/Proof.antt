@@ -1,6 +1,7 @@
 use mathlib.Core.Path.{_≡_, refl, sym, ap, _∙_}
 use mathlib.Core.Bool.{true, false}
 use native.Mathlib.Omega.{arith}
+use Rattle.gil.specs.Layout.{bit}
 use Rattle.gil.specs.Tree.{num, bool, var, neg, bin}
 use Rattle.gil.specs.Reading.{exprDeep, negation, bracketed}
 use Rattle.tokens.specs.Seen.{nameAt}
@@ -110,12 +111,12 @@ unfolding exprBy
 expr-returns-3 t c = (expr-leaf (c .before .before .before .token .ensures) (c .before .before .before .before .before .before .args .depth) (c .before .before .before .before .if1 .left) (num (c .before .before .before .token .result .value)) 257 (c .before .before .match .keys2) (λ z. omega arith) refl (c .leaf2 .ensures .0) (wrote-num (c .before .before .before .token .result .value) (c .leaf2 .ensures .1) (c .leaf2 .ensures .3)), c .leaf2 .ensures .2)
 
 expr-returns-4 : (t : ℕ) → expr-lts.Need-returns-4 (expr-claims t) (expr-at t) expr.Post
-unfolding exprBy exprByKey
-expr-returns-4 t c = (expr-leaf (c .before .before .before .token .ensures) (c .before .before .before .before .before .before .args .depth) (c .before .before .before .before .if1 .left) (bool true) 276 (c .before .before .match .keys3) (λ z. omega arith) refl (c .leaf3 .ensures .0) (wrote-bool true 1 (c .leaf3 .ensures .1) (c .leaf3 .ensures .3)), c .leaf3 .ensures .2)
+unfolding exprBy exprByKey bit
+expr-returns-4 t c = (expr-leaf (c .before .before .before .token .ensures) (c .before .before .before .before .before .before .args .depth) (c .before .before .before .before .if1 .left) (bool true) 276 (c .before .before .match .keys3) (λ z. omega arith) refl (c .leaf3 .ensures .0) (wrote-bool true 1 refl (c .leaf3 .ensures .1) (c .leaf3 .ensures .3)), c .leaf3 .ensures .2)
 
 expr-returns-5 : (t : ℕ) → expr-lts.Need-returns-5 (expr-claims t) (expr-at t) expr.Post
-unfolding exprBy exprByKey
-expr-returns-5 t c = (expr-leaf (c .before .before .before .token .ensures) (c .before .before .before .before .before .before .args .depth) (c .before .before .before .before .if1 .left) (bool false) 277 (c .before .before .match .keys4) (λ z. omega arith) refl (c .leaf4 .ensures .0) (wrote-bool false 0 (c .leaf4 .ensures .1) (c .leaf4 .ensures .3)), c .leaf4 .ensures .2)
+unfolding exprBy exprByKey bit
+expr-returns-5 t c = (expr-leaf (c .before .before .before .token .ensures) (c .before .before .before .before .before .before .args .depth) (c .before .before .before .before .if1 .left) (bool false) 277 (c .before .before .match .keys4) (λ z. omega arith) refl (c .leaf4 .ensures .0) (wrote-bool false 0 refl (c .leaf4 .ensures .1) (c .leaf4 .ensures .3)), c .leaf4 .ensures .2)
 
 expr-returns-6 : (t : ℕ) → expr-lts.Need-returns-6 (expr-claims t) (expr-at t) expr.Post
 unfolding exprBy exprByKey
@@ -150,7 +151,7 @@ operation-mark-requires : (t : ℕ) → operation-lts.Need-mark-requires (operat
 operation-mark-requires t c κs = (c .before .before .before .before .before .before .before .before .before .before .before .before .pre .1 .0, omega arith)
 
 operation-returns : (t : ℕ) → operation-lts.Need-returns (operation-claims t) (operation-at t) operation.Post
-operation-returns t c = (bracketed-goes (exprDeep (c .before .before .before .before .before .before .before .before .before .before .before .before .before .args .depth)) (λ a b o qa qo qb. wrote-bin o (c .before .before .before .before .before .before .before .before .before .after-node .ensures .0) qa qo (c .before .before .before .before .store-node .ensures) (c .before .before .before .before .before .between .ensures) qb) (c .before .before .before .before .before .before .before .before .expr .ensures .0) (c .before .before .before .before .before .before .before .operator .ensures) (c .before .expr2 .ensures .0) (c .mark .ensures), c .before .expr2 .ensures .1)
+operation-returns t c = (bracketed-goes (exprDeep (c .before .before .before .before .before .before .before .before .before .before .before .before .before .args .depth)) (λ a b o qa qo qb. wrote-bin (c .before .before .before .before .before .before .before .before .before .before .before .before .before .args .out) o (c .before .before .before .before .before .before .before .before .before .after-node .ensures .0) qa qo (c .before .before .before .before .store-node .ensures) (c .before .before .before .before .before .between .ensures) qb) (c .before .before .before .before .before .before .before .before .expr .ensures .0) (c .before .before .before .before .before .before .before .operator .ensures) (c .before .expr2 .ensures .0) (c .mark .ensures), c .before .expr2 .ensures .1)
 
 pub +expr+operation-spec : {M : Type 1} → statement M
 +expr+operation-spec = close μ-expr μ-operation (λ t. expr-lts.spec (expr-claims t)
