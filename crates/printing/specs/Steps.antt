@@ -5,17 +5,17 @@ use native.Mathlib.Numerals.{add-one, sub-one}
 use mathlib.Core.Path.{_≡_, refl, sym, _∙_, ap, ap₂}
 use mathlib.Core.Bool.{Bool, true, false}
 use mathlib.Core.List.{List, [], _∷_, _++_, append-assoc, append-nil}
-use lib.ListN.{length, getD, set, take, drop, length-append, length-drop, drop-of-length-le}
+use lib.ListN.{length, getD, set, replicate, take, drop, length-append, length-drop, drop-of-length-le}
 use lib.Seq.{take-suc, take-all, take-nil}
 use lib.Dec.{ltb}
 use borrow.Author.Tests.{lt-ltb, le-ltb}
 use lib.Dec.{eqb}
 use borrow.Author.Tests.{eq-eqb, ne-eqb}
 use Rattle.gil.specs.Text.{bytes, part}
-use Rattle.gil.specs.Printed.{digits, decimal}
+use Rattle.gil.specs.Printed.{digits, decimal, heading}
 use Rattle.words.specs.Words.{wordAt}
-use Rattle.printing.specs.Written.{Wrote, join, wrote-as, wrote-none}
-use Rattle.printing.specs.Forms.{runs, truthForm, constantForm, opForm, nodeSize, capped, termSize, sizesTo, nodeForm, termForm, valueForm}
+use Rattle.printing.specs.Written.{atMost, Wrote, join, wrote-as, wrote-none, Front, front}
+use Rattle.printing.specs.Forms.{runs, truthForm, constantForm, opForm, nodeSize, capped, termSize, sizesTo, sizesIn, nodeForm, termForm, valueForm, rowForm, tableForm}
 
 -- a text's bytes, one after another
 pub all-more :
@@ -159,3 +159,15 @@ module _ (pool : List ℕ) where
       → valueForm pool d tag k ≡ nodeForm (valueForm pool (d - 1)) kind t x u y
   unfolding termForm
   value-node d tag k h e a b c f g = value-term d tag k h e ∙ simp (a, b, c, f, g)
+
+-- the whole table
+pub table-by :
+    (text names table pool : List ℕ) {ss b b' c : List ℕ} {terms rows n m r : ℕ} → terms ≡ wordAt table 4
+    → ss ≡ sizesTo pool (replicate 2048 201) (atMost 2048 terms) → rows ≡ wordAt table 0 → n ≡ atMost 64 rows → Wrote b 0 heading b' m
+    → Wrote b' m (runs (rowForm text names table pool ss) 0 n) c r → Front (tableForm text names table pool) b c r
+unfolding tableForm sizesIn
+table-by text names table pool {ss} {b} {b'} {c} {terms} {rows} {n} {m} {r} e f g h v w =
+    let i : ss ≡ sizesTo pool (replicate 2048 201) (atMost 2048 (wordAt table 4)) =
+      f ∙ ap (λ (k : ℕ). sizesTo pool (replicate 2048 201) (atMost 2048 k)) e in
+    let j : n ≡ atMost 64 (wordAt table 0) = h ∙ ap (atMost 64) g in
+    front (join v (wrote-as (ap₂ (λ (l : List ℕ) (k : ℕ). runs (rowForm text names table pool l) 0 k) i j) w))

@@ -1,3 +1,9 @@
+use native.Mathlib.Omega.{arith}
+use mathlib.Core.Path.{_∙_}
+use borrow.Author.Tests.{eq-eqb, ne-eqb}
+use Rattle.gil.specs.Text.{bytes}
+use Rattle.printing.specs.Written.{join}
+use Rattle.printing.specs.Forms.{conditionsForm}
 use borrow.Author.Needs.{needs}
 use Rattle.printing.proofs.put_conditions.Statement.{statement}
 use Rattle.printing.proofs.put_conditions.Tie as tie
@@ -31,7 +37,8 @@ same-length c = search needs
 
 -- src/lib.rt:377:9
 returns : tie.Need-returns
-returns c = ?
+unfolding conditionsForm bytes
+returns c = rw (← c .before .before .before .before .before .before .before .row-word .ensures, ← c .before .before .before .before .before .before .at-most .ensures .0) (simp (eq-eqb _ _ (c .before .before .before .before .before .if1 .taken)) (c .before .before .put-all .ensures))
 
 -- src/lib.rt:379:9
 put-condition-requires : tie.Need-put-condition-requires
@@ -51,7 +58,8 @@ same-length-2 c = search needs
 
 -- src/lib.rt:365:1
 returns-2 : tie.Need-returns-2
-returns-2 c = ?
+unfolding conditionsForm
+returns-2 c = rw (← c .before .before .before .before .before .before .before .before .before .before .row-word .ensures, ← c .before .before .before .before .before .before .before .before .before .at-most .ensures .0) (simp (ne-eqb _ _ (c .before .before .before .before .before .before .before .before .if1 .left)) (join (c .before .before .before .before .before .before .put-condition .ensures) (c .before .before .put-further .ensures)))
 
 pub put-conditions-spec : {M : Type 1} → statement M
 put-conditions-spec =

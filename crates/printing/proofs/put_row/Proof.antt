@@ -1,3 +1,6 @@
+use Rattle.gil.specs.Printed.{lineEnd}
+use Rattle.printing.specs.Written.{join}
+use Rattle.printing.specs.Forms.{rowForm}
 use borrow.Author.Needs.{needs}
 use Rattle.printing.proofs.put_row.Statement.{statement}
 use Rattle.printing.proofs.put_row.Tie as tie
@@ -39,7 +42,8 @@ same-length c = search needs
 
 -- src/lib.rt:431:1
 returns : tie.Need-returns
-returns c = ?
+unfolding rowForm lineEnd
+returns c = join (join (join (c .before .before .before .before .before .before .before .before .before .before .before .before .before .before .before .before .before .before .before .put-start .ensures) (c .before .before .before .before .before .before .before .before .before .before .before .before .before .before .before .put-place .ensures)) (join (c .before .before .before .before .before .before .before .before .before .before .before .put .ensures) (c .before .before .before .before .before .before .before .put-conditions .ensures))) (c .before .before .put-all .ensures)
 
 pub put-row-spec : {M : Type 1} → statement M
 put-row-spec =

@@ -1,3 +1,6 @@
+use Rattle.gil.specs.Text.{bytes}
+use Rattle.gil.specs.Printed.{lineEnd, refusalLine}
+use Rattle.printing.specs.Written.{join, front}
 use borrow.Author.Needs.{needs}
 use Rattle.printing.proofs.render_refusal.Statement.{statement}
 use Rattle.printing.proofs.render_refusal.Tie as tie
@@ -32,7 +35,8 @@ same-length c = search needs
 
 -- src/lib.rt:488:1
 returns : tie.Need-returns
-returns c = ?
+unfolding refusalLine lineEnd bytes
+returns c = front (join (join (c .before .before .before .before .before .before .before .before .before .before .before .put-all .ensures) (c .before .before .before .before .before .before .before .put-decimal .ensures)) (c .before .before .put-all2 .ensures))
 
 pub render-refusal-spec : {M : Type 1} → statement M
 render-refusal-spec =
