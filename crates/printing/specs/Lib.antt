@@ -4,3 +4,4 @@ pub mod Steps
 pub mod Printable
 pub mod Places
 pub mod Texts
+pub mod Lines

@@ -42,10 +42,10 @@ unfolding decimal
 decimal-length n = digits-length 9 n
 
 -- constants and operators
-pub tagOf : Value Ref → ℕ
+unfoldable pub tagOf : Value Ref → ℕ
 tagOf v = getD (valueWords refTag placeIn v) 0 0
 
-pub wordOf : Value Ref → ℕ
+unfoldable pub wordOf : Value Ref → ℕ
 wordOf v = getD (valueWords refTag placeIn v) 1 0
 
 constant-form : (c : Constant) → constantForm (tagOf (const c)) (wordOf (const c)) ≡ constantText c
@@ -138,7 +138,7 @@ wordsSize : List ℕ → Node Ref → ℕ
 wordsSize ss n =
     nodeSize ss (getD (nodeWords n) 0 0) (getD (nodeWords n) 1 0) (getD (nodeWords n) 2 0) (getD (nodeWords n) 3 0) (getD (nodeWords n) 4 0)
 
-two-words : (v : Value Ref) → valueWords refTag placeIn v ≡ tagOf v ∷ wordOf v ∷ []
+pub two-words : (v : Value Ref) → valueWords refTag placeIn v ≡ tagOf v ∷ wordOf v ∷ []
 unfolding valueWords constantWords tagOf wordOf
 two-words (const (number n)) = refl
 two-words (const (boolean b)) = refl
