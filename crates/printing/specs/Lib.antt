@@ -5,3 +5,5 @@ pub mod Printable
 pub mod Places
 pub mod Texts
 pub mod Lines
+pub mod Promise
+pub mod Room

@@ -169,7 +169,7 @@ module _ (text names : List ℕ) (p : Program) (w : Pool) (rows : List (Row Ref)
         let s : suc (16 + 2 * i) ≡ 17 + 2 * i = omega arith in
         let x : rowWord table j (16 + 2 * i) ≡ placeIn (c .term) = word (16 + 2 * i) (omega arith) ∙ first ws (16 + 2 * i) 0 e in
         let y : rowWord table j (17 + 2 * i) ≡ bit (c .truth) =
-          word (17 + 2 * i) (omega arith) ∙ first ws (17 + 2 * i) 0 (ap (λ (n : ℕ). drop n ws) (sym s) ∙ after ws (16 + 2 * i) e) in
+        word (17 + 2 * i) (omega arith) ∙ first ws (17 + 2 * i) 0 (ap (λ (n : ℕ). drop n ws) (sym s) ∙ after ws (16 + 2 * i) e) in
         ap₂ (λ (k b : ℕ). unlessForm b ++ fieldForm pool ss 5 k) x y ∙ ap₂ (λ (s t : List ℕ). s ++ t) (unless (c .truth)) (term-field (c .term))
 
     further :
@@ -180,7 +180,7 @@ module _ (text names : List ℕ) (p : Program) (w : Pool) (rows : List (Row Ref)
     further (c ∷ cs) i l e h =
         let s : suc (suc (16 + 2 * i)) ≡ 16 + 2 * suc i = omega arith in
         let g : drop (16 + 2 * suc i) ws ≡ gather (conditionWords refTag placeIn) cs ++ l =
-          ap (λ (n : ℕ). drop n ws) (sym s) ∙ after ws (suc (16 + 2 * i)) (after ws (16 + 2 * i) e) in
+        ap (λ (n : ℕ). drop n ws) (sym s) ∙ after ws (suc (16 + 2 * i)) (after ws (16 + 2 * i) e) in
         ap₂ (λ (a b : List ℕ). bytes "; " ++ a ++ b) (condition i c e (omega arith)) (further cs (suc i) l g (omega arith))
 
     conditions :
@@ -239,10 +239,10 @@ module _ (text names : List ℕ) (p : Program) (w : Pool) (rows : List (Row Ref)
         ap₂ (λ (a b : List ℕ). a ++ b ++ (44 ∷ conditionsForm table pool ss j (atMost 16 (rowWord table j 7))) ++ lineEnd) start place
         ∙ ap
         (λ (l : List ℕ).
-          (decimal j ++ (44 ∷ outcomeFields ts (r .outcome)))
-          ++ ((44 ∷ decimal (r .steps)) ++ (44 ∷ procedureAt p (r .procedure) .name) ++ (44 ∷ decimal (r .command)))
-          ++ (44 ∷ l)
-          ++ lineEnd) listed
+        (decimal j ++ (44 ∷ outcomeFields ts (r .outcome)))
+        ++ ((44 ∷ decimal (r .steps)) ++ (44 ∷ procedureAt p (r .procedure) .name) ++ (44 ∷ decimal (r .command)))
+        ++ (44 ∷ l)
+        ++ lineEnd) listed
         ∙ regroup (decimal j) (44 ∷ outcomeFields ts (r .outcome)) (44 ∷ decimal (r .steps)) (44 ∷ procedureAt p (r .procedure) .name)
         (44 ∷ decimal (r .command)) (44 ∷ conditionsField ts (r .conditions)) lineEnd
 
@@ -257,8 +257,8 @@ module _ (text names : List ℕ) (p : Program) (w : Pool) (rows : List (Row Ref)
   unfolding tableForm sizesIn exploredText
   table-law =
       let m : atMost 2048 (wordAt table 4) ≡ length w =
-        ap (atMost 2048) (term-count w rows rest (f .fewTerms) (f .fewRows)) ∙ at-most-itself 2048 (length w) (f .fewTerms) in
+      ap (atMost 2048) (term-count w rows rest (f .fewTerms) (f .fewRows)) ∙ at-most-itself 2048 (length w) (f .fewTerms) in
       let n : atMost 64 (wordAt table 0) ≡ length rows =
-        ap (atMost 64) (row-count w rows rest (f .fewTerms) (f .fewRows)) ∙ at-most-itself 64 (length rows) (f .fewRows) in
+      ap (atMost 64) (row-count w rows rest (f .fewTerms) (f .fewRows)) ∙ at-most-itself 64 (length rows) (f .fewRows) in
       ap₂ (λ (a b : ℕ). heading ++ runs (rowForm text names table pool (sizesTo pool (replicate 2048 201) a)) 0 b) m n
       ∙ ap (λ (l : List ℕ). heading ++ l) (lines rows 0 refl)

@@ -74,7 +74,7 @@ module _ {A : Type 0} (ws : A → List ℕ) (m : ℕ) where
   thing-word h rest (suc k) j at d (each.more {a} {l} f fs) i g e =
       let s : length (gather wordBytes (ws a)) ≡ 4 * m = length-words (ws a) ∙ ap (λ (n : ℕ). 4 * n) (f .size) in
       let z : at ≡ length (h ++ gather wordBytes (ws a)) + 4 * (m * k) + 4 * j =
-        e ∙ simp (length-append, mul-suc) (omega arith) in
+      e ∙ simp (length-append, mul-suc) (omega arith) in
       ap (λ (b : List ℕ). wordAt b at)
       (ap (λ (b : List ℕ). h ++ b) (append-assoc (gather wordBytes (ws a)) (all l) rest)
       ∙ sym (append-assoc h (gather wordBytes (ws a)) (all l ++ rest)))

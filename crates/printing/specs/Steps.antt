@@ -168,6 +168,6 @@ pub table-by :
 unfolding tableForm sizesIn
 table-by text names table pool {ss} {b} {b'} {c} {terms} {rows} {n} {m} {r} e f g h v w =
     let i : ss ≡ sizesTo pool (replicate 2048 201) (atMost 2048 (wordAt table 4)) =
-      f ∙ ap (λ (k : ℕ). sizesTo pool (replicate 2048 201) (atMost 2048 k)) e in
+    f ∙ ap (λ (k : ℕ). sizesTo pool (replicate 2048 201) (atMost 2048 k)) e in
     let j : n ≡ atMost 64 (wordAt table 0) = h ∙ ap (atMost 64) g in
     front (join v (wrote-as (ap₂ (λ (l : List ℕ) (k : ℕ). runs (rowForm text names table pool l) 0 k) i j) w))

@@ -176,7 +176,7 @@ bin-size o none b = capped-over _ (omega arith)
 bin-size o (some a) none = capped-over _ (omega arith)
 bin-size o (some a) (some b) =
     let e : 2 + length a + length (opText o) + length b ≡ length (40 ∷ (a ++ opText o ++ b ++ (41 ∷ []))) =
-      simp length-append (omega arith) in
+    simp length-append (omega arith) in
     ap capped e ∙ size-atMost (40 ∷ (a ++ opText o ++ b ++ (41 ∷ [])))
 
 node-size :

@@ -9,6 +9,7 @@ ghost use lib.ListN.{length};
 ghost use Rattle.gil.specs.Text.{part};
 ghost use Rattle.gil.specs.Printed.{digits, decimal, refusalLine};
 ghost use Rattle.printing.specs.Written.{Wrote, atMost, Front};
+ghost use Rattle.printing.specs.Promise.{Renders};
 ghost use Rattle.printing.specs.Forms.{runs, constantForm, opForm, sizeAt, valueSize, nodeSize, capped, termSize, sizesTo, valueForm, fieldForm, cutForm, outcomeForm, unlessForm, rowWord, nameForm, conditionForm, furtherForm, conditionsForm, startForm, placeForm, rowForm, tableForm};
 use words::word_at;
 
@@ -468,10 +469,11 @@ fn put_rows(
     place
 }
 
-// The whole table: as much of its text as `out` has room for stands at its front, and how many bytes that is. 262,144 are enough for
-// every table.
+// The whole table: as much of its text as `out` has room for stands at the front, and how many bytes that is. On the bytes of a table and
+// its pool that is document 01's printed table, for which 262,144 bytes are always enough.
 pub fn render(text: &[u8], names: &[u32; 32], table: &[u8], pool: &[u8], out: &mut [u8]) -> usize
-    ensures { λ r. ⌜ Front (tableForm (now (text .entry)) (now (names .entry)) (now (table .entry)) (now (pool .entry))) (now (out .entry)) (now (out .exit)) r ⌝ }
+    ensures any { λ r. ⌜ Front (tableForm (now (text .entry)) (now (names .entry)) (now (table .entry)) (now (pool .entry))) (now (out .entry)) (now (out .exit)) r ⌝ }
+    ensures printed { λ r. ⌜ Renders (now (text .entry)) (now (names .entry)) (now (table .entry)) (now (pool .entry)) (now (out .entry)) (now (out .exit)) r ⌝ }
 {
     let mut sizes = [201u8; TERMS];
     measure(pool, &mut sizes, word_at(table, 4));

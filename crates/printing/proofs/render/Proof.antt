@@ -1,6 +1,7 @@
 use Rattle.gil.specs.Text.{bytes}
 use Rattle.gil.specs.Printed.{lineEnd, heading}
 use Rattle.printing.specs.Steps.{table-by}
+use Rattle.printing.specs.Room.{renders}
 use borrow.Author.Needs.{needs}
 use Rattle.printing.proofs.render.Statement.{statement}
 use Rattle.printing.proofs.render.Tie as tie
@@ -12,42 +13,43 @@ use Rattle.printing.proofs.put_all.Reads as put-all-reads
 use Rattle.printing.proofs.put_rows.Reads as put-rows-reads
 use Rattle.words.proofs.word_at.Reads as word-at-reads
 
--- src/lib.rt:477:31
+-- src/lib.rt:479:31
 word-at-requires : tie.Need-word-at-requires
 word-at-requires c κs = search needs
 
--- src/lib.rt:477:5
+-- src/lib.rt:479:5
 measure-requires : tie.Need-measure-requires
 measure-requires c κs = search needs
 
--- src/lib.rt:478:28
+-- src/lib.rt:480:28
 word-at-requires-2 : tie.Need-word-at-requires-2
 word-at-requires-2 c κs = search needs
 
--- src/lib.rt:478:9
+-- src/lib.rt:480:9
 at-most-requires : tie.Need-at-most-requires
 at-most-requires c κs = search needs
 
--- src/lib.rt:482:9
+-- src/lib.rt:484:9
 slice-aggregate-put-all : tie.Need-slice-aggregate-put-all
 slice-aggregate-put-all c = search needs
 
--- src/lib.rt:479:9
+-- src/lib.rt:481:9
 put-all-requires : tie.Need-put-all-requires
 put-all-requires c κs = search needs
 
--- src/lib.rt:484:5
+-- src/lib.rt:486:5
 put-rows-requires : tie.Need-put-rows-requires
 put-rows-requires c κs = search needs
 
--- src/lib.rt:473:1
+-- src/lib.rt:474:1
 same-length : tie.Need-same-length
 same-length c = search needs
 
--- src/lib.rt:473:1
+-- src/lib.rt:474:1
 returns : tie.Need-returns
 unfolding heading lineEnd bytes
-returns c = table-by _ _ _ _ (c .before .before .before .before .before .before .before .before .before .before .before .before .before .word-at .ensures) (c .before .before .before .before .before .before .before .before .before .before .before .before .measure .ensures) (c .before .before .before .before .before .before .before .before .before .before .before .word-at2 .ensures) (c .before .before .before .before .before .before .before .before .before .before .at-most .ensures .0) (c .before .before .before .before .before .before .before .put-all .ensures) (c .before .before .put-rows .ensures)
+returns c = let x = table-by _ _ _ _ (c .before .before .before .before .before .before .before .before .before .before .before .before .before .word-at .ensures) (c .before .before .before .before .before .before .before .before .before .before .before .before .measure .ensures) (c .before .before .before .before .before .before .before .before .before .before .before .word-at2 .ensures) (c .before .before .before .before .before .before .before .before .before .before .at-most .ensures .0) (c .before .before .before .before .before .before .before .put-all .ensures) (c .before .before .put-rows .ensures) in
+    (x, renders _ _ _ _ x)
 
 pub render-spec : {M : Type 1} → statement M
 render-spec =
