@@ -1,32 +1,29 @@
 -- The lines of a table, taken from its bytes and its pool's, are document 01's printed form. Assumes nothing.
 use Prim.Native.Nat.{ℕ, zero, suc, _+_, _*_, _-_, _≤_, _<_}
 use native.Mathlib.Omega.{arith}
-use native.Mathlib.Numerals.{add-one, sub-one, unary-clauses}
 use mathlib.Core.Path.{_≡_, refl, sym, _∙_, ap, ap₂}
 use mathlib.Core.Bool.{Bool, true, false}
-use mathlib.Core.List.{List, [], _∷_, _++_, append-assoc, append-nil}
-use mathlib.Core.Option.{Option, none, some}
-use lib.ListN.{length, getD, take, drop, replicate, length-append, length-replicate}
-use lib.Dec.{ltb, eqb}
+use mathlib.Core.List.{List, [], _∷_, _++_, append-assoc}
+use mathlib.Core.Option.{Option, none}
+use lib.ListN.{length, getD, drop, replicate}
 use borrow.Author.Tests.{lt-ltb, le-ltb, ne-eqb}
-use Rattle.gil.specs.Text.{bytes, part}
+use Rattle.gil.specs.Text.{bytes}
 use Rattle.gil.specs.Names.{gather, Program}
-use Rattle.gil.specs.Values.{Value, const, term, Node, input}
-use Rattle.gil.specs.Machine.{procedureAt, End, returned, failed, vanished, error}
-use Rattle.gil.specs.Rows.{Condition, Reason, steps, branches, Outcome, ended, cut, Row}
+use Rattle.gil.specs.Values.{Value, term}
+use Rattle.gil.specs.Machine.{procedureAt, returned, failed, vanished, error}
+use Rattle.gil.specs.Rows.{Condition, steps, branches, Outcome, ended, cut, Row}
 use Rattle.gil.specs.Explore.{explored}
-use Rattle.gil.specs.Pool.{Ref, numberTerm, booleanTerm, placeIn, Pool}
-use Rattle.gil.specs.Layout.{wordBytes, room, bit, refTag, valueWords, conditionWords, variableWords, cellWords, endWords, outcomeWords, reasonCode, headWords, rowWords, rowBytes, nodeWords, poolBytes, tableHead, tableBytes}
-use Rattle.gil.specs.Printed.{decimal, poolTexts, valueText, orLarge, valueField, endFields, outcomeFields, unlessTrue, conditionText, conditionsAfter, conditionsField, lineEnd, rowLine, rowLines, heading, exploredText}
+use Rattle.gil.specs.Pool.{Ref, booleanTerm, placeIn, Pool}
+use Rattle.gil.specs.Layout.{room, bit, refTag, valueWords, conditionWords, variableWords, cellWords, endWords, outcomeWords, reasonCode, headWords, rowWords, rowBytes, poolBytes, tableHead, tableBytes}
+use Rattle.gil.specs.Printed.{decimal, poolTexts, valueText, valueField, endFields, outcomeFields, unlessTrue, conditionText, conditionsAfter, conditionsField, lineEnd, rowLine, rowLines, heading, exploredText}
 use Rattle.code.specs.WellFormed.{Each}
 use Rattle.code.specs.WellFormed as each
 use Rattle.words.specs.Words.{wordAt}
 use Rattle.words.specs.Reads.{Words, wordAt-words}
 use Rattle.words.specs.Reads as words
-use Rattle.values.specs.Packed.{if?}
 use Rattle.printing.specs.Written.{atMost}
 use Rattle.printing.specs.Forms.{runs, sizesTo, sizesIn, fieldForm, cutForm, outcomeForm, unlessForm, rowWord, nameForm, conditionForm, furtherForm, conditionsForm, startForm, placeForm, rowForm, tableForm}
-use Rattle.printing.specs.Printable.{RowFits, NameIs, Printable}
+use Rattle.printing.specs.Printable.{RowFits, Printable}
 use Rattle.printing.specs.Places.{first, after, more-there, each-at, length-words, Sized, thing-word}
 use Rattle.printing.specs.Texts.{tagOf, wordOf, two-words, field-form}
 

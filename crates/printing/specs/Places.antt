@@ -1,24 +1,20 @@
 -- Words of table and pool read from their bytes, where the layout has them. Assumes nothing.
-use Prim.Native.Nat.{ℕ, zero, suc, _+_, _*_, _-_, _≤_, _<_}
+use Prim.Native.Nat.{ℕ, zero, suc, _+_, _*_, _-_, _<_}
 use native.Mathlib.Omega.{arith}
 use native.Mathlib.Nat.{mul-suc, mul-zero}
-use native.Mathlib.Numerals.{add-one, unary-clauses}
 use mathlib.Core.Path.{_≡_, refl, sym, _∙_, ap, ap₂}
 use mathlib.Core.List.{List, [], _∷_, _++_, append-assoc}
-use lib.ListN.{length, getD, drop, replicate, length-append, length-replicate}
+use lib.ListN.{length, getD, drop, replicate, length-append}
 use lib.Seq.{getD-drop, drop-drop}
 use Rattle.gil.specs.Names.{gather}
 use Rattle.gil.specs.Values.{Value, const, term, number, boolean, location, Node, input, neg, bin}
-use Rattle.gil.specs.Rows.{Row}
 use Rattle.gil.specs.Pool.{Ref, placeIn, Pool}
-use Rattle.gil.specs.Layout.{wordBytes, room, refTag, constantWords, valueWords, nodeWords, nodeBytes, poolBytes, rowWords, rowBytes, tableHead, tableBytes}
+use Rattle.gil.specs.Layout.{wordBytes, room, refTag, constantWords, valueWords, nodeWords, nodeBytes, poolBytes}
 use Rattle.code.specs.WellFormed.{Each}
 use Rattle.code.specs.WellFormed as each
 use Rattle.words.specs.Words.{wordAt}
 use Rattle.words.specs.Reads.{Words, wordAt-words}
 use Rattle.words.specs.Reads as words
-use Rattle.printing.specs.Printable.{RowFits, Printable}
-use Rattle.printing.specs.Forms.{rowWord}
 
 -- The first thing of what is left of a list, and what is left after it
 module _ {A : Type 0} where
@@ -81,7 +77,7 @@ module _ {A : Type 0} (ws : A → List ℕ) (m : ℕ) where
       ∙ thing-word (h ++ gather wordBytes (ws a)) rest k j at d fs (omega arith) g z
 
 -- the pool
-pub length-value : (v : Value Ref) → length (valueWords refTag placeIn v) ≡ 2
+length-value : (v : Value Ref) → length (valueWords refTag placeIn v) ≡ 2
 unfolding valueWords constantWords
 length-value (const (number n)) = refl
 length-value (const (boolean b)) = refl

@@ -2,7 +2,7 @@
 -- Nothing is asked of references or sorts. Whoever explored the table has to show this. Assumes nothing.
 use Prim.Native.Nat.{ℕ, _+_, _*_, _≤_, _<_}
 use mathlib.Core.Path.{_≡_}
-use mathlib.Core.List.{List, _++_}
+use mathlib.Core.List.{List}
 use lib.ListN.{length, getD}
 use Rattle.gil.specs.Text.{part}
 use Rattle.gil.specs.Names.{Program}

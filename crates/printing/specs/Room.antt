@@ -1,10 +1,10 @@
 -- "At most 262,144 bytes": every printable table's text fits, and so do the refusals. Assumes nothing.
-use Prim.Native.Nat.{ℕ, zero, suc, _+_, _*_, _≤_, _<_}
+use Prim.Native.Nat.{ℕ, suc, _+_, _*_, _≤_, _<_}
 use native.Mathlib.Omega.{arith}
-use mathlib.Core.Path.{_≡_, refl, sym, _∙_, ap}
+use mathlib.Core.Path.{_≡_, sym, _∙_, ap}
 use mathlib.Core.Bool.{Bool, true, false}
 use mathlib.Core.List.{List, [], _∷_, _++_}
-use mathlib.Core.Option.{Option, none, some}
+use mathlib.Core.Option.{Option, none}
 use lib.ListN.{length, take, drop, length-append}
 use lib.Seq.{take-length, take-at}
 use borrow.Author.Tests.{le-ltb}
@@ -12,11 +12,11 @@ use Rattle.gil.specs.Text.{bytes}
 use Rattle.gil.specs.Names.{Program}
 use Rattle.gil.specs.Values.{Value, term}
 use Rattle.gil.specs.Machine.{procedureAt, End, returned, failed, vanished, error}
-use Rattle.gil.specs.Rows.{Condition, Reason, steps, branches, Outcome, ended, cut, Row}
+use Rattle.gil.specs.Rows.{Condition, steps, branches, Outcome, ended, cut, Row}
 use Rattle.gil.specs.Explore.{explored}
 use Rattle.gil.specs.Pool.{Ref, Pool}
-use Rattle.gil.specs.Layout.{poolBytes, tableBytes}
-use Rattle.gil.specs.Printed.{decimal, valueText, poolTexts, orLarge, valueField, endFields, outcomeFields, unlessTrue, conditionText, conditionsAfter, conditionsField, lineEnd, rowLine, rowLines, heading, refusalLine, exploredText}
+use Rattle.gil.specs.Layout.{tableBytes}
+use Rattle.gil.specs.Printed.{poolTexts, orLarge, valueField, endFields, outcomeFields, unlessTrue, conditionText, conditionsAfter, conditionsField, lineEnd, rowLine, rowLines, heading, refusalLine, exploredText}
 use Rattle.code.specs.WellFormed.{Each}
 use Rattle.code.specs.WellFormed as each
 use Rattle.printing.specs.Written.{atMost, Front}

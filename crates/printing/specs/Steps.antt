@@ -3,14 +3,11 @@ use Prim.Native.Nat.{ℕ, zero, suc, _+_, _*_, _-_, _/_, _%_, _≤_, _<_}
 use native.Mathlib.Omega.{arith}
 use native.Mathlib.Numerals.{add-one, sub-one}
 use mathlib.Core.Path.{_≡_, refl, sym, _∙_, ap, ap₂}
-use mathlib.Core.Bool.{Bool, true, false}
+use mathlib.Core.Bool.{true, false}
 use mathlib.Core.List.{List, [], _∷_, _++_, append-assoc, append-nil}
 use lib.ListN.{length, getD, set, replicate, take, drop, length-append, length-drop, drop-of-length-le}
 use lib.Seq.{take-suc, take-all, take-nil}
-use lib.Dec.{ltb}
-use borrow.Author.Tests.{lt-ltb, le-ltb}
-use lib.Dec.{eqb}
-use borrow.Author.Tests.{eq-eqb, ne-eqb}
+use borrow.Author.Tests.{lt-ltb, le-ltb, ne-eqb}
 use Rattle.gil.specs.Text.{bytes, part}
 use Rattle.gil.specs.Printed.{digits, decimal, heading}
 use Rattle.words.specs.Words.{wordAt}
@@ -148,7 +145,7 @@ module _ (pool : List ℕ) where
   unfolding valueForm
   value-past d tag x h e = ap (λ (n : ℕ). valueForm pool n tag x) e ∙ simp (le-ltb tag 4 h, valueForm)
 
-  pub value-term : (d tag x : ℕ) → 4 ≤ tag → (d ≡ 0 → ⊥) → valueForm pool d tag x ≡ termForm (valueForm pool (d - 1)) pool x
+  value-term : (d tag x : ℕ) → 4 ≤ tag → (d ≡ 0 → ⊥) → valueForm pool d tag x ≡ termForm (valueForm pool (d - 1)) pool x
   unfolding valueForm
   value-term zero tag x h e = absurd (e refl)
   value-term (suc d) tag x h e = simp (le-ltb tag 4 h, valueForm, sub-one)

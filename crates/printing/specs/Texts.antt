@@ -3,15 +3,14 @@
 -- sides. Assumes nothing.
 use Prim.Native.Nat.{ℕ, zero, suc, _+_, _*_, _-_, _/_, _%_, _≤_, _<_}
 use native.Mathlib.Omega.{arith}
-use native.Mathlib.Numerals.{add-one, sub-one, unary-clauses}
 use mathlib.Core.Path.{_≡_, refl, sym, _∙_, ap, ap₂}
 use mathlib.Core.Bool.{Bool, true, false}
 use mathlib.Core.List.{List, [], _∷_, _++_, append-assoc, append-nil}
 use mathlib.Core.Option.{Option, none, some}
 use lib.ListN.{length, getD, set, take, drop, replicate, length-append, length-set, length-replicate, getD-replicate, take-append-drop, List·getD-append, List·getD-eq-default}
-use lib.Seq.{take-suc, take-all, take-length, length-take-le, getD-at, getD-set-same, getD-set-other}
+use lib.Seq.{take-suc, take-length, length-take-le, getD-at, getD-set-same, getD-set-other}
 use lib.Dec.{ltb, leb, eqb}
-use borrow.Author.Tests.{lt-ltb, le-ltb, le-leb, lt-leb, leb-true, leb-false, ltb-true, ltb-false, eqb-true, eqb-false}
+use borrow.Author.Tests.{lt-ltb, le-ltb, leb-true, leb-false, ltb-true, ltb-false, eqb-true, eqb-false}
 use Rattle.gil.specs.Text.{bytes}
 use Rattle.gil.specs.Tree.{Op, plus, minus, equal, less, and, or}
 use Rattle.gil.specs.Values.{Constant, number, boolean, location, Value, const, term, Node, input, neg, bin}
@@ -66,24 +65,15 @@ unfolding tagOf valueWords refTag
 term-tag (numberTerm k) = omega arith
 term-tag (booleanTerm k) = omega arith
 
-pub constant-length : (c : Constant) → length (constantText c) ≤ 11
+constant-length : (c : Constant) → length (constantText c) ≤ 11
 unfolding constantText truthText bytes
 constant-length (number n) = omega (arith, decimal-length n)
 constant-length (boolean true) = omega arith
 constant-length (boolean false) = omega arith
 constant-length (location l) = omega (arith, decimal-length l)
 
-op-form : (o : Op) → opForm (opCode o) ≡ opText o
-unfolding opForm opCode opText
-op-form plus = refl
-op-form minus = refl
-op-form equal = refl
-op-form less = refl
-op-form and = refl
-op-form or = refl
-
 -- A text's size, 201 where it is too long; and that a text that is there is at most 200 bytes long
-pub sizeOf : Option (List ℕ) → ℕ
+sizeOf : Option (List ℕ) → ℕ
 sizeOf none = 201
 sizeOf (some t) = length t
 
@@ -116,7 +106,7 @@ short-atMost t = by (leb (length t) 200) refl
     by false e = large
 
 -- The sizes `ss` are those of the texts `ts`, and these are short
-pub Sizes : List ℕ → List (Option (List ℕ)) → Type 0
+Sizes : List ℕ → List (Option (List ℕ)) → Type 0
 Sizes ss ts = (j : ℕ) → sizeAt ss j ≡ sizeOf (getD ts j none)
 
 pub Shorts : List (Option (List ℕ)) → Type 0
@@ -236,10 +226,10 @@ texts-more ts (m ∷ ns) =
     (nodeText ts m ∷ x .0, x .1 ∙ append-assoc ts (nodeText ts m ∷ []) (x .0))
 
 -- the texts of the first k terms
-pub firstTexts : Pool → ℕ → List (Option (List ℕ))
+firstTexts : Pool → ℕ → List (Option (List ℕ))
 firstTexts w k = textsFrom [] (take k w)
 
-pub nodeAt : Pool → ℕ → Node Ref
+nodeAt : Pool → ℕ → Node Ref
 nodeAt w k = getD w k (input 0)
 
 first-length : (w : Pool) (k : ℕ) → k ≤ length w → length (firstTexts w k) ≡ k
@@ -433,7 +423,7 @@ module _ (w : Pool) (rest : List ℕ) (few : length w ≤ 2048) (fits : Each (λ
   unfolding firstTexts poolTexts
   all-texts = ap (textsFrom []) (take-length w)
 
-  pub pool-sizes : Sizes (sizesTo pool (replicate 2048 201) (length w)) (poolTexts w)
+  pool-sizes : Sizes (sizesTo pool (replicate 2048 201) (length w)) (poolTexts w)
   pool-sizes = rw (← all-texts) (first-sizes (length w) (omega arith))
 
   pub pool-shorts : Shorts (poolTexts w)

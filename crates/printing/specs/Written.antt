@@ -1,13 +1,13 @@
 -- Text written forward into lent memory: byte after byte from a place on, and none where the memory ends. `Wrote` is every writer's
 -- contract; two texts written one after the other are their join. Assumes nothing.
-use Prim.Native.Nat.{ℕ, zero, suc, _+_, _-_, _≤_, _<_, min}
+use Prim.Native.Nat.{ℕ, suc, _+_, _≤_, _<_}
 use native.Mathlib.Omega.{arith}
-use native.Mathlib.Numerals.{add-one, unary-clauses}
+use native.Mathlib.Numerals.{add-one}
 use mathlib.Core.Path.{_≡_, refl, sym, _∙_, ap, ap₂}
 use mathlib.Core.Bool.{Bool, true, false}
-use mathlib.Core.List.{List, [], _∷_, _++_, append-assoc}
-use lib.ListN.{length, set, take, drop, length-set, length-append, take-append-drop}
-use lib.Seq.{set-out, sets, sets-eq, take-length, length-take-le, drop-length}
+use mathlib.Core.List.{List, [], _∷_, _++_}
+use lib.ListN.{length, set, take, drop, length-set, take-append-drop}
+use lib.Seq.{set-out, sets, sets-eq, take-length, length-take-le}
 use lib.Dec.{ltb}
 use borrow.Author.Tests.{lt-ltb, le-ltb, ltb-true, ltb-false}
 use Rattle.values.specs.Packed.{if?}

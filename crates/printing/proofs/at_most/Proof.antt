@@ -3,8 +3,6 @@ use borrow.Author.Tests.{lt-ltb, le-ltb}
 use Rattle.printing.specs.Written.{atMost}
 use Rattle.printing.proofs.at_most.Statement.{statement}
 use Rattle.printing.proofs.at_most.Tie as tie
-use Rattle.printing.proofs.at_most.Reads as reads
-use Rattle.printing.proofs.at_most.Lts as lts
 
 -- src/lib.rt:153:1
 returns : tie.Need-returns

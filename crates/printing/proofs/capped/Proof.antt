@@ -3,8 +3,6 @@ use Rattle.printing.specs.Forms as forms
 use borrow.Author.Needs.{needs}
 use Rattle.printing.proofs.capped.Statement.{statement}
 use Rattle.printing.proofs.capped.Tie as tie
-use Rattle.printing.proofs.capped.Reads as reads
-use Rattle.printing.proofs.capped.Lts as lts
 
 -- src/lib.rt:195:9
 returns : tie.Need-returns

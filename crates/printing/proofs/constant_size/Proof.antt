@@ -1,5 +1,4 @@
 use native.Mathlib.Omega.{arith}
-use Prim.Native.Nat.{ℕ, _+_}
 use mathlib.Core.Path.{sym, ap, _∙_}
 use lib.ListN.{length}
 use Rattle.gil.specs.Text.{bytes}
@@ -8,9 +7,6 @@ use Rattle.printing.specs.Steps.{constant-number, constant-truth, consta
 use borrow.Author.Needs.{needs}
 use Rattle.printing.proofs.constant_size.Statement.{statement}
 use Rattle.printing.proofs.constant_size.Tie as tie
-use Rattle.printing.proofs.constant_size.Reads as reads
-use Rattle.printing.proofs.constant_size.Lts as lts
-use Rattle.printing.proofs.digits_size.Reads as digits-size-reads
 
 -- src/lib.rt:108:9
 digits-size-requires : tie.Need-digits-size-requires

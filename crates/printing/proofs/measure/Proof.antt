@@ -1,4 +1,4 @@
-use Prim.Native.Nat.{ℕ, _≤_, _-_}
+use Prim.Native.Nat.{_≤_, _-_}
 use mathlib.Core.Path.{_≡_}
 use native.Mathlib.Omega.{arith}
 use borrow.Author.Needs.{needs}
@@ -6,10 +6,6 @@ use Rattle.printing.specs.Forms.{sizesTo}
 use Rattle.printing.specs.Steps.{sizes-more, sizes-none}
 use Rattle.printing.proofs.measure.Statement.{statement}
 use Rattle.printing.proofs.measure.Tie as tie
-use Rattle.printing.proofs.measure.Reads as reads
-use Rattle.printing.proofs.measure.Lts as lts
-use Rattle.printing.proofs.at_most.Reads as at-most-reads
-use Rattle.printing.proofs.term_size.Reads as term-size-reads
 
 abbrev Inv-loop : tie.InvT-loop
 Inv-loop pool sizes₀ terms n k₀ sizes k = (k ≤ n) × (sizes ≡ sizesTo pool sizes₀ k)

@@ -7,11 +7,6 @@ use Rattle.printing.specs.Forms.{nodeSize}
 use borrow.Author.Needs.{needs}
 use Rattle.printing.proofs.node_size.Statement.{statement}
 use Rattle.printing.proofs.node_size.Tie as tie
-use Rattle.printing.proofs.node_size.Reads as reads
-use Rattle.printing.proofs.node_size.Lts as lts
-use Rattle.printing.proofs.digits_size.Reads as digits-size-reads
-use Rattle.printing.proofs.op_size.Reads as op-size-reads
-use Rattle.printing.proofs.value_size.Reads as value-size-reads
 
 -- src/lib.rt:183:20
 digits-size-requires : tie.Need-digits-size-requires

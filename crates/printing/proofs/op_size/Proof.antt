@@ -5,8 +5,6 @@ use Rattle.gil.specs.Text.{bytes}
 use Rattle.printing.specs.Forms.{opForm}
 use Rattle.printing.proofs.op_size.Statement.{statement}
 use Rattle.printing.proofs.op_size.Tie as tie
-use Rattle.printing.proofs.op_size.Reads as reads
-use Rattle.printing.proofs.op_size.Lts as lts
 
 -- src/lib.rt:133:1
 returns : tie.Need-returns

@@ -2,8 +2,6 @@ use Rattle.printing.specs.Written.{wrote-in, wrote-out}
 use borrow.Author.Needs.{needs}
 use Rattle.printing.proofs.put.Statement.{statement}
 use Rattle.printing.proofs.put.Tie as tie
-use Rattle.printing.proofs.put.Reads as reads
-use Rattle.printing.proofs.put.Lts as lts
 
 -- src/lib.rt:25:9
 slice-write-out : tie.Need-slice-write-out

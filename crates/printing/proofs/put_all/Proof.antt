@@ -7,9 +7,6 @@ use Rattle.printing.specs.Steps.{all-more, all-end}
 use borrow.Author.Needs.{needs}
 use Rattle.printing.proofs.put_all.Statement.{statement}
 use Rattle.printing.proofs.put_all.Tie as tie
-use Rattle.printing.proofs.put_all.Reads as reads
-use Rattle.printing.proofs.put_all.Lts as lts
-use Rattle.printing.proofs.put.Reads as put-reads
 
 abbrev Inv-loop : tie.InvT-loop
 Inv-loop out₀ at s place₀ i₀ out place i = (i ≤ length s) × (length out ≡ length out₀) × Wrote out₀ at (take i s) out place

@@ -3,11 +3,6 @@ use Rattle.printing.specs.Forms.{conditionForm}
 use borrow.Author.Needs.{needs}
 use Rattle.printing.proofs.put_condition.Statement.{statement}
 use Rattle.printing.proofs.put_condition.Tie as tie
-use Rattle.printing.proofs.put_condition.Reads as reads
-use Rattle.printing.proofs.put_condition.Lts as lts
-use Rattle.printing.proofs.put_field.Reads as put-field-reads
-use Rattle.printing.proofs.put_unless.Reads as put-unless-reads
-use Rattle.printing.proofs.row_word.Reads as row-word-reads
 
 -- src/lib.rt:336:39
 mul-row-word : tie.Need-mul-row-word

@@ -1,5 +1,3 @@
-use native.Mathlib.Omega.{arith}
-use mathlib.Core.Path.{_∙_}
 use borrow.Author.Tests.{eq-eqb, ne-eqb}
 use Rattle.gil.specs.Text.{bytes}
 use Rattle.printing.specs.Written.{join}
@@ -7,13 +5,6 @@ use Rattle.printing.specs.Forms.{conditionsForm}
 use borrow.Author.Needs.{needs}
 use Rattle.printing.proofs.put_conditions.Statement.{statement}
 use Rattle.printing.proofs.put_conditions.Tie as tie
-use Rattle.printing.proofs.put_conditions.Reads as reads
-use Rattle.printing.proofs.put_conditions.Lts as lts
-use Rattle.printing.proofs.at_most.Reads as at-most-reads
-use Rattle.printing.proofs.put_all.Reads as put-all-reads
-use Rattle.printing.proofs.put_condition.Reads as put-condition-reads
-use Rattle.printing.proofs.put_further.Reads as put-further-reads
-use Rattle.printing.proofs.row_word.Reads as row-word-reads
 
 -- src/lib.rt:375:25
 row-word-requires : tie.Need-row-word-requires

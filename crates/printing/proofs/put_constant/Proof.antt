@@ -5,11 +5,6 @@ use Rattle.printing.specs.Steps.{constant-number, constant-truth, consta
 use borrow.Author.Needs.{needs}
 use Rattle.printing.proofs.put_constant.Statement.{statement}
 use Rattle.printing.proofs.put_constant.Tie as tie
-use Rattle.printing.proofs.put_constant.Reads as reads
-use Rattle.printing.proofs.put_constant.Lts as lts
-use Rattle.printing.proofs.put.Reads as put-reads
-use Rattle.printing.proofs.put_all.Reads as put-all-reads
-use Rattle.printing.proofs.put_decimal.Reads as put-decimal-reads
 
 -- src/lib.rt:92:9
 put-decimal-requires : tie.Need-put-decimal-requires

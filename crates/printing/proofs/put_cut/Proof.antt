@@ -4,9 +4,6 @@ use Rattle.printing.specs.Forms.{cutForm}
 use borrow.Author.Needs.{needs}
 use Rattle.printing.proofs.put_cut.Statement.{statement}
 use Rattle.printing.proofs.put_cut.Tie as tie
-use Rattle.printing.proofs.put_cut.Reads as reads
-use Rattle.printing.proofs.put_cut.Lts as lts
-use Rattle.printing.proofs.put_all.Reads as put-all-reads
 
 -- src/lib.rt:270:33
 slice-aggregate-put-all : tie.Need-slice-aggregate-put-all

@@ -2,9 +2,6 @@ use Rattle.gil.specs.Printed.{decimal}
 use borrow.Author.Needs.{needs}
 use Rattle.printing.proofs.put_decimal.Statement.{statement}
 use Rattle.printing.proofs.put_decimal.Tie as tie
-use Rattle.printing.proofs.put_decimal.Reads as reads
-use Rattle.printing.proofs.put_decimal.Lts as lts
-use Rattle.printing.proofs.put_digits.Reads as put-digits-reads
 
 -- src/lib.rt:73:5
 put-digits-requires : tie.Need-put-digits-requires

@@ -4,11 +4,6 @@ use Rattle.printing.specs.Forms.{fieldForm}
 use borrow.Author.Needs.{needs}
 use Rattle.printing.proofs.put_field.Statement.{statement}
 use Rattle.printing.proofs.put_field.Tie as tie
-use Rattle.printing.proofs.put_field.Reads as reads
-use Rattle.printing.proofs.put_field.Lts as lts
-use Rattle.printing.proofs.put_all.Reads as put-all-reads
-use Rattle.printing.proofs.put_value.Reads as put-value-reads
-use Rattle.printing.proofs.value_size.Reads as value-size-reads
 
 -- src/lib.rt:262:18
 value-size-requires : tie.Need-value-size-requires

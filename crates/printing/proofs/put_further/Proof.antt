@@ -9,10 +9,6 @@ use Rattle.printing.specs.Forms.{runs, furtherForm}
 use Rattle.printing.specs.Steps.{runs-more, runs-none}
 use Rattle.printing.proofs.put_further.Statement.{statement}
 use Rattle.printing.proofs.put_further.Tie as tie
-use Rattle.printing.proofs.put_further.Reads as reads
-use Rattle.printing.proofs.put_further.Lts as lts
-use Rattle.printing.proofs.put_all.Reads as put-all-reads
-use Rattle.printing.proofs.put_condition.Reads as put-condition-reads
 
 abbrev Inv-loop : tie.InvT-loop
 Inv-loop out₀ at table pool sizes row n place₀ i₀ t11 out place i = (i ≤ n) × (length out ≡ length out₀) × Wrote out₀ at (runs (furtherForm table pool sizes row) 1 i) out place

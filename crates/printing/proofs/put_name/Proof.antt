@@ -4,9 +4,6 @@ use Rattle.printing.specs.Forms.{nameForm}
 use borrow.Author.Needs.{needs}
 use Rattle.printing.proofs.put_name.Statement.{statement}
 use Rattle.printing.proofs.put_name.Tie as tie
-use Rattle.printing.proofs.put_name.Reads as reads
-use Rattle.printing.proofs.put_name.Lts as lts
-use Rattle.printing.proofs.put_part.Reads as put-part-reads
 
 -- src/lib.rt:371:46
 mul-put-part : tie.Need-mul-put-part

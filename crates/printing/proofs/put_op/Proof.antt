@@ -4,9 +4,6 @@ use Rattle.printing.specs.Forms.{opForm}
 use borrow.Author.Needs.{needs}
 use Rattle.printing.proofs.put_op.Statement.{statement}
 use Rattle.printing.proofs.put_op.Tie as tie
-use Rattle.printing.proofs.put_op.Reads as reads
-use Rattle.printing.proofs.put_op.Lts as lts
-use Rattle.printing.proofs.put_all.Reads as put-all-reads
 
 -- src/lib.rt:124:31
 slice-aggregate-put-all : tie.Need-slice-aggregate-put-all

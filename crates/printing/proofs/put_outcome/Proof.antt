@@ -5,12 +5,6 @@ use Rattle.printing.specs.Forms.{outcomeForm}
 use borrow.Author.Needs.{needs}
 use Rattle.printing.proofs.put_outcome.Statement.{statement}
 use Rattle.printing.proofs.put_outcome.Tie as tie
-use Rattle.printing.proofs.put_outcome.Reads as reads
-use Rattle.printing.proofs.put_outcome.Lts as lts
-use Rattle.printing.proofs.put_all.Reads as put-all-reads
-use Rattle.printing.proofs.put_cut.Reads as put-cut-reads
-use Rattle.printing.proofs.put_decimal.Reads as put-decimal-reads
-use Rattle.printing.proofs.put_field.Reads as put-field-reads
 
 -- src/lib.rt:291:38
 slice-aggregate-put-all : tie.Need-slice-aggregate-put-all

@@ -4,9 +4,6 @@ use Rattle.printing.specs.Steps.{part-past, part-short, part-whole}
 use borrow.Author.Needs.{needs}
 use Rattle.printing.proofs.put_part.Statement.{statement}
 use Rattle.printing.proofs.put_part.Tie as tie
-use Rattle.printing.proofs.put_part.Reads as reads
-use Rattle.printing.proofs.put_part.Lts as lts
-use Rattle.printing.proofs.put_all.Reads as put-all-reads
 
 -- src/lib.rt:48:15
 add-end : tie.Need-add-end

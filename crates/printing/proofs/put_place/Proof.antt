@@ -1,15 +1,8 @@
-use mathlib.Core.Path.{sym}
 use Rattle.printing.specs.Written.{join}
 use Rattle.printing.specs.Forms.{placeForm}
 use borrow.Author.Needs.{needs}
 use Rattle.printing.proofs.put_place.Statement.{statement}
 use Rattle.printing.proofs.put_place.Tie as tie
-use Rattle.printing.proofs.put_place.Reads as reads
-use Rattle.printing.proofs.put_place.Lts as lts
-use Rattle.printing.proofs.put.Reads as put-reads
-use Rattle.printing.proofs.put_decimal.Reads as put-decimal-reads
-use Rattle.printing.proofs.put_name.Reads as put-name-reads
-use Rattle.printing.proofs.row_word.Reads as row-word-reads
 
 -- src/lib.rt:406:9
 put-requires : tie.Need-put-requires

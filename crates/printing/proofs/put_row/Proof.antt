@@ -4,13 +4,6 @@ use Rattle.printing.specs.Forms.{rowForm}
 use borrow.Author.Needs.{needs}
 use Rattle.printing.proofs.put_row.Statement.{statement}
 use Rattle.printing.proofs.put_row.Tie as tie
-use Rattle.printing.proofs.put_row.Reads as reads
-use Rattle.printing.proofs.put_row.Lts as lts
-use Rattle.printing.proofs.put.Reads as put-reads
-use Rattle.printing.proofs.put_all.Reads as put-all-reads
-use Rattle.printing.proofs.put_conditions.Reads as put-conditions-reads
-use Rattle.printing.proofs.put_place.Reads as put-place-reads
-use Rattle.printing.proofs.put_start.Reads as put-start-reads
 
 -- src/lib.rt:443:9
 put-start-requires : tie.Need-put-start-requires

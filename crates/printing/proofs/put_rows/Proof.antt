@@ -8,9 +8,6 @@ use Rattle.printing.specs.Forms.{runs, rowForm}
 use Rattle.printing.specs.Steps.{rows-more, runs-none}
 use Rattle.printing.proofs.put_rows.Statement.{statement}
 use Rattle.printing.proofs.put_rows.Tie as tie
-use Rattle.printing.proofs.put_rows.Reads as reads
-use Rattle.printing.proofs.put_rows.Lts as lts
-use Rattle.printing.proofs.put_row.Reads as put-row-reads
 
 abbrev Inv-loop : tie.InvT-loop
 Inv-loop out₀ at text names table pool sizes n place₀ row₀ out place row = (row ≤ n) × (length out ≡ length out₀) × Wrote out₀ at (runs (rowForm text names table pool sizes) 0 row) out place

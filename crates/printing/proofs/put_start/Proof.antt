@@ -3,12 +3,6 @@ use Rattle.printing.specs.Forms.{startForm}
 use borrow.Author.Needs.{needs}
 use Rattle.printing.proofs.put_start.Statement.{statement}
 use Rattle.printing.proofs.put_start.Tie as tie
-use Rattle.printing.proofs.put_start.Reads as reads
-use Rattle.printing.proofs.put_start.Lts as lts
-use Rattle.printing.proofs.put.Reads as put-reads
-use Rattle.printing.proofs.put_decimal.Reads as put-decimal-reads
-use Rattle.printing.proofs.put_outcome.Reads as put-outcome-reads
-use Rattle.printing.proofs.row_word.Reads as row-word-reads
 
 -- src/lib.rt:387:9
 row-word-requires : tie.Need-row-word-requires

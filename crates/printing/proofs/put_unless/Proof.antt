@@ -5,9 +5,6 @@ use Rattle.printing.specs.Forms.{unlessForm}
 use borrow.Author.Needs.{needs}
 use Rattle.printing.proofs.put_unless.Statement.{statement}
 use Rattle.printing.proofs.put_unless.Tie as tie
-use Rattle.printing.proofs.put_unless.Reads as reads
-use Rattle.printing.proofs.put_unless.Lts as lts
-use Rattle.printing.proofs.put_all.Reads as put-all-reads
 
 -- src/lib.rt:317:33
 slice-aggregate-put-all : tie.Need-slice-aggregate-put-all

@@ -5,13 +5,6 @@ use Rattle.printing.specs.Room.{renders}
 use borrow.Author.Needs.{needs}
 use Rattle.printing.proofs.render.Statement.{statement}
 use Rattle.printing.proofs.render.Tie as tie
-use Rattle.printing.proofs.render.Reads as reads
-use Rattle.printing.proofs.render.Lts as lts
-use Rattle.printing.proofs.at_most.Reads as at-most-reads
-use Rattle.printing.proofs.measure.Reads as measure-reads
-use Rattle.printing.proofs.put_all.Reads as put-all-reads
-use Rattle.printing.proofs.put_rows.Reads as put-rows-reads
-use Rattle.words.proofs.word_at.Reads as word-at-reads
 
 -- src/lib.rt:479:31
 word-at-requires : tie.Need-word-at-requires

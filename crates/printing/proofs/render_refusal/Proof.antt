@@ -4,10 +4,6 @@ use Rattle.printing.specs.Written.{join, front}
 use borrow.Author.Needs.{needs}
 use Rattle.printing.proofs.render_refusal.Statement.{statement}
 use Rattle.printing.proofs.render_refusal.Tie as tie
-use Rattle.printing.proofs.render_refusal.Reads as reads
-use Rattle.printing.proofs.render_refusal.Lts as lts
-use Rattle.printing.proofs.put_all.Reads as put-all-reads
-use Rattle.printing.proofs.put_decimal.Reads as put-decimal-reads
 
 -- src/lib.rt:491:34
 slice-aggregate-put-all : tie.Need-slice-aggregate-put-all

@@ -2,9 +2,6 @@ use Rattle.printing.specs.Forms.{rowWord}
 use borrow.Author.Needs.{needs}
 use Rattle.printing.proofs.row_word.Statement.{statement}
 use Rattle.printing.proofs.row_word.Tie as tie
-use Rattle.printing.proofs.row_word.Reads as reads
-use Rattle.printing.proofs.row_word.Lts as lts
-use Rattle.words.proofs.word_at.Reads as word-at-reads
 
 -- src/lib.rt:309:25
 mul-word-at : tie.Need-mul-word-at

@@ -4,9 +4,6 @@ use Rattle.printing.specs.Forms.{sizeAt}
 use borrow.Author.Needs.{needs}
 use Rattle.printing.proofs.size_at.Statement.{statement}
 use Rattle.printing.proofs.size_at.Tie as tie
-use Rattle.printing.proofs.size_at.Reads as reads
-use Rattle.printing.proofs.size_at.Lts as lts
-use Rattle.printing.proofs.wide.Reads as wide-reads
 
 -- src/lib.rt:164:21
 element-copy-out-wide : tie.Need-element-copy-out-wide

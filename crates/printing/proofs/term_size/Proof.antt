@@ -2,11 +2,6 @@ use Rattle.printing.specs.Steps.{size-by}
 use borrow.Author.Needs.{needs}
 use Rattle.printing.proofs.term_size.Statement.{statement}
 use Rattle.printing.proofs.term_size.Tie as tie
-use Rattle.printing.proofs.term_size.Reads as reads
-use Rattle.printing.proofs.term_size.Lts as lts
-use Rattle.printing.proofs.capped.Reads as capped-reads
-use Rattle.printing.proofs.node_size.Reads as node-size-reads
-use Rattle.words.proofs.word_at.Reads as word-at-reads
 
 -- src/lib.rt:203:14
 mul-at : tie.Need-mul-at

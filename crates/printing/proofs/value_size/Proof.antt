@@ -4,10 +4,6 @@ use Rattle.printing.specs.Forms.{valueSize}
 use borrow.Author.Needs.{needs}
 use Rattle.printing.proofs.value_size.Statement.{statement}
 use Rattle.printing.proofs.value_size.Tie as tie
-use Rattle.printing.proofs.value_size.Reads as reads
-use Rattle.printing.proofs.value_size.Lts as lts
-use Rattle.printing.proofs.constant_size.Reads as constant-size-reads
-use Rattle.printing.proofs.size_at.Reads as size-at-reads
 
 -- src/lib.rt:173:9
 constant-size-requires : tie.Need-constant-size-requires
