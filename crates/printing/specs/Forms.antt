@@ -1,5 +1,5 @@
 -- What each function of this crate writes or answers, on any bytes of table and pool at all: sizes of texts, values, terms, a row's fields,
--- rows. `Laws` shows that for the bytes of a table and its pool this is document 01's printed form. Assumes nothing.
+-- rows. `Lines` shows that for the bytes of a table and its pool this is document 01's printed form. Assumes nothing.
 use Prim.Native.Nat.{ℕ, zero, suc, _+_, _*_, _-_}
 use mathlib.Core.List.{List, [], _∷_, _++_}
 use lib.ListN.{length, getD, set, replicate}
@@ -107,7 +107,7 @@ module _ (table pool ss : List ℕ) (row : ℕ) where
   unfoldable pub conditionsForm : ℕ → List ℕ
   conditionsForm n = if? (eqb n 0) (bytes "true") (conditionForm 0 ++ runs furtherForm 1 (n - 1))
 
-  -- the first three columns, and the next three
+  -- a row's number, outcome and value; then steps, procedure and command
   unfoldable pub startForm : List ℕ
   startForm = decimal row ++ (44 ∷ outcomeForm pool ss (rowWord table row 0) (rowWord table row 1) (rowWord table row 2))
 

@@ -1,7 +1,7 @@
 // "The printed table": a table and its pool, from their bytes to CSV in lent memory. Everything is total: on bytes that are no table
 // something is written, in bounded time, and what finds no room is not written. A term's text is never built: one pass over the pool
-// takes every text's size, and only a text of at most 200 bytes is written. What each function writes is specs/Forms.antt's;
-// specs/Laws.antt shows that this is document 01's printed form.
+// takes every text's size, and only a text of at most 200 bytes is written. Kinds, tags and places are docs/LAYOUT.md's. What each
+// function writes is specs/Forms.antt's; specs/Texts.antt and specs/Lines.antt show that this is document 01's printed form.
 ghost use mathlib.Core.Path.{_≡_};
 ghost use mathlib.Core.List.{[], _∷_, _++_};
 ghost use Prim.Native.Nat.{_+_, _≤_, _<_};
@@ -13,8 +13,10 @@ ghost use Rattle.printing.specs.Promise.{Renders};
 ghost use Rattle.printing.specs.Forms.{runs, constantForm, opForm, sizeAt, valueSize, nodeSize, capped, termSize, sizesTo, valueForm, fieldForm, cutForm, outcomeForm, unlessForm, rowWord, nameForm, conditionForm, furtherForm, conditionsForm, startForm, placeForm, rowForm, tableForm};
 use words::word_at;
 
-// The most bytes a term's text may have
+// The most bytes a term's text may have, and the size that stands for every larger one
 const LONGEST: u32 = 200;
+
+const LARGE: u8 = 201;
 
 const TERMS: usize = 2048;
 
@@ -76,6 +78,7 @@ fn put_decimal(out: &mut [u8], at: usize, n: u32) -> usize
     put_digits(out, at, n, 9)
 }
 
+// How many bytes those digits take
 fn digits_size(n: u32, more: u8) -> u32
     ensures { λ r. ⌜ (r ≡ length (digits more n)) × (r ≤ more + 1) ⌝ }
 {
@@ -88,6 +91,7 @@ fn digits_size(n: u32, more: u8) -> u32
     digits_size(n / 10, more - 1) + 1
 }
 
+// A constant, by its tag and its word
 fn put_constant(out: &mut [u8], at: usize, tag: u32, x: u32) -> usize
     ensures { λ r. ⌜ Wrote (now (out .entry)) at (constantForm tag x) (now (out .exit)) r ⌝ }
 {
@@ -159,6 +163,7 @@ fn at_most(most: u32, n: u32) -> u32
     if most < n { most } else { n }
 }
 
+// The size of term k's text, where that is taken already
 fn size_at(sizes: &[u8; TERMS], k: u32) -> u32
     ensures { λ r. ⌜ (r ≡ sizeAt (now (sizes .entry)) k) × (r < 256) ⌝ }
 {
@@ -195,7 +200,7 @@ fn capped(n: u32) -> u8
     ensures { λ r. ⌜ r ≡ capped n ⌝ }
 {
     if LONGEST < n {
-        return 201;
+        return LARGE;
     }
     n as u8
 }
@@ -381,6 +386,7 @@ fn put_conditions(
     put_further(out, first, table, pool, sizes, row, n - 1)
 }
 
+// The name of procedure f, where the text has it
 fn put_name(out: &mut [u8], at: usize, text: &[u8], names: &[u32; 32], f: u32) -> usize
     ensures { λ r. ⌜ Wrote (now (out .entry)) at (nameForm (now (text .entry)) (now (names .entry)) f) (now (out .exit)) r ⌝ }
 {
@@ -475,7 +481,7 @@ pub fn render(text: &[u8], names: &[u32; 32], table: &[u8], pool: &[u8], out: &m
     ensures any { λ r. ⌜ Front (tableForm (now (text .entry)) (now (names .entry)) (now (table .entry)) (now (pool .entry))) (now (out .entry)) (now (out .exit)) r ⌝ }
     ensures printed { λ r. ⌜ Renders (now (text .entry)) (now (names .entry)) (now (table .entry)) (now (pool .entry)) (now (out .entry)) (now (out .exit)) r ⌝ }
 {
-    let mut sizes = [201u8; TERMS];
+    let mut sizes = [LARGE; TERMS];
     measure(pool, &mut sizes, word_at(table, 4));
     let rows = at_most(64, word_at(table, 0));
     let start = put_all(
