@@ -1,9 +1,6 @@
-pub mod Written
 pub mod Forms
 pub mod Steps
 pub mod Printable
-pub mod Places
-pub mod Texts
 pub mod Lines
 pub mod Promise
 pub mod Room

@@ -21,11 +21,12 @@ use Rattle.code.specs.WellFormed as each
 use Rattle.words.specs.Words.{wordAt}
 use Rattle.words.specs.Reads.{Words, wordAt-words}
 use Rattle.words.specs.Reads as words
-use Rattle.printing.specs.Written.{atMost}
-use Rattle.printing.specs.Forms.{runs, sizesTo, sizesIn, fieldForm, cutForm, outcomeForm, unlessForm, rowWord, nameForm, conditionForm, furtherForm, conditionsForm, startForm, placeForm, rowForm, tableForm}
+use Rattle.writing.specs.Written.{atMost}
+use Rattle.printing.specs.Forms.{runs, sizesIn, cutForm, outcomeForm, unlessForm, rowWord, nameForm, conditionForm, furtherForm, conditionsForm, startForm, placeForm, rowForm, tableForm}
+use Rattle.fields.specs.Forms.{sizesTo, fieldForm}
 use Rattle.printing.specs.Printable.{RowFits, Printable}
-use Rattle.printing.specs.Places.{first, after, more-there, each-at, length-words, Sized, thing-word}
-use Rattle.printing.specs.Texts.{tagOf, wordOf, two-words, field-form}
+use Rattle.fields.specs.Places.{first, after, more-there, each-at, length-words, Sized, thing-word}
+use Rattle.fields.specs.Texts.{tagOf, wordOf, two-words, field-form}
 
 at-most-itself : (most n : ℕ) → n ≤ most → atMost most n ≡ n
 unfolding atMost

@@ -19,10 +19,11 @@ use Rattle.gil.specs.Layout.{tableBytes}
 use Rattle.gil.specs.Printed.{poolTexts, orLarge, valueField, endFields, outcomeFields, unlessTrue, conditionText, conditionsAfter, conditionsField, lineEnd, rowLine, rowLines, heading, refusalLine, exploredText}
 use Rattle.code.specs.WellFormed.{Each}
 use Rattle.code.specs.WellFormed as each
-use Rattle.printing.specs.Written.{atMost, Front}
+use Rattle.writing.specs.Written.{atMost, Front}
 use Rattle.printing.specs.Forms.{tableForm}
 use Rattle.printing.specs.Printable.{RowFits, Printable}
-use Rattle.printing.specs.Texts.{decimal-length, Short, large, short, Shorts, value-short, pool-shorts}
+use Rattle.writing.specs.Steps.{decimal-length}
+use Rattle.fields.specs.Texts.{Short, large, short, Shorts, value-short, pool-shorts}
 use Rattle.printing.specs.Lines.{table-law}
 use Rattle.printing.specs.Promise.{Whole, Renders}
 

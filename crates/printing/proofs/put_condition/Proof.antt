@@ -1,4 +1,4 @@
-use Rattle.printing.specs.Written.{join}
+use Rattle.writing.specs.Written.{join}
 use Rattle.printing.specs.Forms.{conditionForm}
 use borrow.Author.Needs.{needs}
 use Rattle.printing.proofs.put_condition.Statement.{statement}

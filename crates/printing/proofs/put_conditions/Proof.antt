@@ -1,6 +1,6 @@
 use borrow.Author.Tests.{eq-eqb, ne-eqb}
 use Rattle.gil.specs.Text.{bytes}
-use Rattle.printing.specs.Written.{join}
+use Rattle.writing.specs.Written.{join}
 use Rattle.printing.specs.Forms.{conditionsForm}
 use borrow.Author.Needs.{needs}
 use Rattle.printing.proofs.put_conditions.Statement.{statement}

@@ -4,7 +4,7 @@ use mathlib.Core.Path.{_≡_, refl, _∙_}
 use lib.ListN.{length}
 use borrow.Author.Needs.{needs}
 use Rattle.gil.specs.Text.{bytes}
-use Rattle.printing.specs.Written.{Wrote, join}
+use Rattle.writing.specs.Written.{Wrote, join}
 use Rattle.printing.specs.Forms.{runs, furtherForm}
 use Rattle.printing.specs.Steps.{runs-more, runs-none}
 use Rattle.printing.proofs.put_further.Statement.{statement}

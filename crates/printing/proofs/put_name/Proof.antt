@@ -1,4 +1,4 @@
-use Rattle.printing.specs.Written.{wrote-none}
+use Rattle.writing.specs.Written.{wrote-none}
 use borrow.Author.Tests.{lt-ltb, le-ltb}
 use Rattle.printing.specs.Forms.{nameForm}
 use borrow.Author.Needs.{needs}

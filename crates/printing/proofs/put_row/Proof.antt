@@ -1,5 +1,5 @@
 use Rattle.gil.specs.Printed.{lineEnd}
-use Rattle.printing.specs.Written.{join}
+use Rattle.writing.specs.Written.{join}
 use Rattle.printing.specs.Forms.{rowForm}
 use borrow.Author.Needs.{needs}
 use Rattle.printing.proofs.put_row.Statement.{statement}

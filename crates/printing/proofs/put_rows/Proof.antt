@@ -3,7 +3,7 @@ use native.Mathlib.Omega.{arith}
 use mathlib.Core.Path.{_≡_, refl, _∙_}
 use lib.ListN.{length}
 use borrow.Author.Needs.{needs}
-use Rattle.printing.specs.Written.{Wrote}
+use Rattle.writing.specs.Written.{Wrote}
 use Rattle.printing.specs.Forms.{runs, rowForm}
 use Rattle.printing.specs.Steps.{rows-more, runs-none}
 use Rattle.printing.proofs.put_rows.Statement.{statement}

@@ -1,6 +1,6 @@
 use borrow.Author.Tests.{ne-eqb}
 use Rattle.gil.specs.Text.{bytes}
-use Rattle.printing.specs.Written.{wrote-none}
+use Rattle.writing.specs.Written.{wrote-none}
 use Rattle.printing.specs.Forms.{unlessForm}
 use borrow.Author.Needs.{needs}
 use Rattle.printing.proofs.put_unless.Statement.{statement}

@@ -1,6 +1,6 @@
 use Rattle.gil.specs.Text.{bytes}
 use Rattle.gil.specs.Printed.{lineEnd, refusalLine}
-use Rattle.printing.specs.Written.{join, front}
+use Rattle.writing.specs.Written.{join, front}
 use borrow.Author.Needs.{needs}
 use Rattle.printing.proofs.render_refusal.Statement.{statement}
 use Rattle.printing.proofs.render_refusal.Tie as tie
