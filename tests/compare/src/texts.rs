@@ -1,6 +1,6 @@
 //! The texts, each made from one seed: those of the reference's generator, and
-//! here besides texts without any sense, and texts that run into the limits of
-//! a path or of an exploration.
+//! besides texts without any sense, texts of mixed sorts, and texts that run
+//! into the limits of a path or of an exploration.
 
 use reference::generate::{crowded_text, damaged_text, valid_text, Random};
 
@@ -9,56 +9,19 @@ pub fn text(seed: u64) -> (&'static str, Vec<u8>) {
     // The kind must not be tied to what the generator does with the seed.
     let random = &mut Random::new(seed ^ 0x5EED);
     match random.below(10) {
-        0..=3 => ("valid", valid_text(seed)),
-        4 | 5 => ("damaged", damaged_text(seed)),
-        6 => ("crowded", crowded_text(seed)),
-        7 => ("random", senseless(seed, random)),
+        0..=2 => ("valid", valid_text(seed)),
+        3 | 4 => ("damaged", damaged_text(seed)),
+        5 => ("crowded", crowded_text(seed)),
+        6 => ("random", senseless(seed, random)),
+        7 => ("mixed", mixed(random).into_bytes()),
         _ => ("full", full(random).into_bytes()),
     }
 }
 
 // ------------------------------------------------------------------- no sense
 
-const TOKENS: [&str; 38] = [
-    "main(x){",
-    "}",
-    "{",
-    "(",
-    ")",
-    "[",
-    "]",
-    ",",
-    ";",
-    ":=",
-    "+",
-    "-",
-    "=",
-    "<",
-    "and",
-    "or",
-    "not",
-    "true",
-    "false",
-    "x",
-    "y",
-    "f",
-    "ifgoto",
-    "return",
-    "fail",
-    "vanish",
-    "lookup",
-    "mutate",
-    "dispose",
-    "uSym_0",
-    "iSym_0",
-    "0",
-    "7",
-    "\"p\"",
-    "x := 1;",
-    "vanish;",
-    "return x;",
-    "f(x){",
-];
+const TOKENS: &str = "main(x){ f(x){ { } ( ) [ ] , ; := + - = < and or not true false x y f \
+    ifgoto return fail vanish lookup mutate dispose uSym_0 iSym_0 0 7 \"p\" x:=1; return(x+1); vanish;";
 
 /// Bytes, tokens, or the beginning of a right text.
 fn senseless(seed: u64, random: &mut Random) -> Vec<u8> {
@@ -66,8 +29,10 @@ fn senseless(seed: u64, random: &mut Random) -> Vec<u8> {
     match random.below(3) {
         0 => (0..length).map(|_| random.bits() as u8).collect(),
         1 => {
-            let tokens: Vec<&str> = (0..length / 2).map(|_| random.pick(&TOKENS)).collect();
-            tokens.join(random.pick(&["", " "])).into_bytes()
+            let tokens: Vec<&str> = TOKENS.split(' ').collect();
+            let some: Vec<&str> = (0..length / 2).map(|_| random.pick(&tokens)).collect();
+            let beginning = random.pick(&["", "main(x){", "main(x){ x := "]);
+            (beginning.to_string() + &some.join(random.pick(&["", " "]))).into_bytes()
         }
         _ => {
             let mut text = valid_text(seed);
@@ -75,6 +40,43 @@ fn senseless(seed: u64, random: &mut Random) -> Vec<u8> {
             text
         }
     }
+}
+
+// ---------------------------------------------------------------- mixed sorts
+
+/// An expression on operands of all sorts, constant or term, bound or not.
+fn operand(depth: u32, random: &mut Random) -> String {
+    if depth == 1 || random.chance(40) {
+        let leaves = ["a", "a", "c", "c", "o", "u", "x", "7", "true", "false"];
+        return random.pick(&leaves).to_string();
+    }
+    let left = operand(depth - 1, random);
+    match random.pick(&["not", "+", "-", "<", "and", "or", "=", "=", "="]) {
+        "not" => format!("not {left}"),
+        operator => format!("({left} {operator} {})", operand(depth - 1, random)),
+    }
+}
+
+/// Which error comes first, and which terms were made before it.
+fn mixed(random: &mut Random) -> String {
+    let mut body = String::from("a := iSym_0; c := (a < 5); o := uSym_0; ");
+    for number in 0..random.between(1, 4) {
+        let (one, two) = (operand(3, random), operand(3, random));
+        body += &match random.below(8) {
+            0 => format!("y := mutate([{one}, \"p\", {two}]); "),
+            1 => format!("y := mutate([o, \"p\", {two}]); "),
+            2 => format!("y := lookup([{one}, \"p\"]); "),
+            3 => format!("y := dispose({one}); "),
+            4 => format!("y := f({one}); "),
+            5 => format!("ifgoto {one} {}; ", number + 4),
+            _ => format!("y := ({one} = {two}); "),
+        };
+    }
+    format!(
+        "{}f(y) {{ return (y = {}); }}",
+        main(&(body + last(random) + " vanish; ")),
+        operand(2, random)
+    )
 }
 
 // ----------------------------------------------------------------- full texts
