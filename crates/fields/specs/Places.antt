@@ -1,4 +1,4 @@
--- Words of table and pool read from their bytes, where the layout has them. Assumes nothing.
+-- Words read from the bytes of things that stand one after another, as the terms of a pool do and the rows of a table. Assumes nothing.
 use Prim.Native.Nat.{ℕ, zero, suc, _+_, _*_, _-_, _<_}
 use native.Mathlib.Omega.{arith}
 use native.Mathlib.Nat.{mul-suc, mul-zero}

@@ -13,9 +13,10 @@ use writing::put;
 use writing::put_all;
 use writing::put_decimal;
 
-// The most bytes a term's text may have, and the size that stands for every larger one
+// The most bytes a term's text may have
 const LONGEST: u32 = 200;
 
+// The size that stands for every larger one
 pub const LARGE: u8 = 201;
 
 pub const TERMS: usize = 2048;

@@ -3,17 +3,15 @@ use Prim.Native.Nat.{ℕ, zero, suc, _+_, _-_, _/_, _%_, _≤_, _<_}
 use native.Mathlib.Omega.{arith}
 use native.Mathlib.Numerals.{add-one, sub-one}
 use mathlib.Core.Path.{_≡_, refl, sym, _∙_, ap}
-use mathlib.Core.Bool.{true, false}
+use mathlib.Core.Bool.{Bool, true, false}
 use mathlib.Core.List.{List, [], _∷_, _++_}
 use lib.ListN.{length, getD, take, drop, length-append, length-drop, drop-of-length-le}
 use lib.Seq.{take-suc, take-all, take-nil}
+use lib.Dec.{ltb}
 use borrow.Author.Tests.{lt-ltb, le-ltb}
 use Rattle.gil.specs.Text.{part}
 use Rattle.gil.specs.Printed.{digits, decimal}
 use Rattle.writing.specs.Written.{Wrote, join, wrote-as}
-use lib.Dec.{ltb}
-use mathlib.Core.Bool.{Bool}
-use native.Mathlib.Omega.{arith}
 
 -- a text's bytes, one after another
 pub all-more :
