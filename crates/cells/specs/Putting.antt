@@ -22,9 +22,9 @@ cell l q v = record { location = l; property = q; value = v }
 data PlacedAt (l q k : ℕ) (cs : List (Machine.Cell ℕ)) : Place → Type 0 where
   holds : (j m : ℕ) → j ≡ k + m → m < length cs → ((v : Value ℕ) → putCell l q v cs ≡ set cs m (cell l q v)) → PlacedAt l q k cs (Holds j)
   free :
-    (j m : ℕ) → j ≡ k + m → m ≤ length cs
-    → ((v : Value ℕ) → putCell l q v cs ≡ take m cs ++ cell l q v ∷ drop m cs)
-    → PlacedAt l q k cs (Free j)
+      (j m : ℕ) → j ≡ k + m → m ≤ length cs
+      → ((v : Value ℕ) → putCell l q v cs ≡ take m cs ++ cell l q v ∷ drop m cs)
+      → PlacedAt l q k cs (Free j)
 
 module _ (l q : ℕ) (c : Machine.Cell ℕ) (cs : List (Machine.Cell ℕ)) (v : Value ℕ) where
   put-by : Bool → Bool → List (Machine.Cell ℕ)
@@ -120,7 +120,7 @@ inserted held i c cells whole low high =
     ∙ take-append-add (take i cells) (shiftIn (suc k) c (drop i cells)) (suc k)
     ∙ ap (λ (r : List Cell). take i cells ++ r) (shift-take k c (drop i cells) h)
     ∙ ap₂ (λ (a b : List Cell). a ++ c ∷ b) (sym (take-take i held cells low))
-      (sym (ap (λ (n : ℕ). drop i (take n cells)) g ∙ drop-of-take i k cells (omega arith)))
+    (sym (ap (λ (n : ℕ). drop i (take n cells)) g ∙ drop-of-take i k cells (omega arith)))
 
 module _ (l q i held : ℕ) (cells : List Cell) (whole : length cells ≡ 32) (few : held ≤ 32) where
   in-use : length (heldIn held cells) ≡ held
@@ -136,12 +136,19 @@ module _ (l q i held : ℕ) (cells : List Cell) (whole : length cells ≡ 32) (f
   pub grown-free : (v : Value ℕ) → placeFrom l q 0 (heldIn held cells) ≡ Free i → held + 1 ≡ length (putCell l q v (heldIn held cells))
   grown-free v e =
       let s = free-at l q (heldIn held cells) i (placed l q 0 (heldIn held cells)) e in
-      omega (arith, ap length (s .1 v), length-append (take i (heldIn held cells)) (cell l q v ∷ drop i (heldIn held cells)),
-        length-take i (heldIn held cells), length-drop i (heldIn held cells), in-use, s .0)
+      omega (
+        arith,
+        ap length (s .1 v),
+        length-append (take i (heldIn held cells)) (cell l q v ∷ drop i (heldIn held cells)),
+        length-take i (heldIn held cells),
+        length-drop i (heldIn held cells),
+        in-use,
+        s .0,
+      )
 
   pub put-holds : (v : ℕ) → placeFrom l q 0 (heldIn held cells) ≡ Holds i
       → heldIn (length (putCell l q (term v) (heldIn held cells))) (set cells i (record { location = record { 0 = l }; property = q; value = v }))
-        ≡ putCell l q (term v) (heldIn held cells)
+      ≡ putCell l q (term v) (heldIn held cells)
   put-holds v e =
       let c : Cell = record { location = record { 0 = l }; property = q; value = v } in
       let s = holds-at l q (heldIn held cells) i (placed l q 0 (heldIn held cells)) e in
@@ -153,7 +160,7 @@ module _ (l q i held : ℕ) (cells : List Cell) (whole : length cells ≡ 32) (f
   pub put-free : (v : ℕ) → placeFrom l q 0 (heldIn held cells) ≡ Free i
       → length (putCell l q (term v) (heldIn held cells)) ≤ 32
       → heldIn (length (putCell l q (term v) (heldIn held cells))) (insertIn held i (record { location = record { 0 = l }; property = q; value = v }) cells)
-        ≡ putCell l q (term v) (heldIn held cells)
+      ≡ putCell l q (term v) (heldIn held cells)
   put-free v e room =
       let c : Cell = record { location = record { 0 = l }; property = q; value = v } in
       let s = free-at l q (heldIn held cells) i (placed l q 0 (heldIn held cells)) e in

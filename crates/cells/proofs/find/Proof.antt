@@ -1,7 +1,6 @@
 use Rattle.cells.specs.Laws.{from-none, from-end, found-none, found-here, found-later}
 use mathlib.Core.Path.{sym, _∙_}
 use lib.ListN.{length}
-
 use Prim.Native.Nat.{ℕ, _-_, _<_, _≤_}
 use mathlib.Core.Path.{_≡_, refl}
 use native.Mathlib.Omega.{arith}

@@ -1,0 +1,19 @@
+use Rattle.commands.specs.Stepped.{gotoIn}
+use borrow.Author.Needs.{needs}
+use Rattle.commands.proofs.goto.Statement.{statement}
+use Rattle.commands.proofs.goto.Tie as tie
+use Rattle.commands.proofs.goto.Reads as reads
+use Rattle.commands.proofs.goto.Lts as lts
+use Rattle.commands.proofs.moved.Reads as moved-reads
+
+-- src/lib.rt:68:5
+moved-requires : tie.Need-moved-requires
+moved-requires c κs = search needs
+
+-- src/lib.rt:65:1
+returns : tie.Need-returns
+unfolding gotoIn
+returns c = c .moved .ensures
+
+pub goto-spec : {M : Type 1} → statement M
+goto-spec = tie.close (tie.spec moved-requires returns)

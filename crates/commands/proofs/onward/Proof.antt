@@ -1,0 +1,24 @@
+use Rattle.commands.specs.Stepped.{onwardIn}
+use borrow.Author.Needs.{needs}
+use Rattle.commands.proofs.onward.Statement.{statement}
+use Rattle.commands.proofs.onward.Tie as tie
+use Rattle.commands.proofs.onward.Reads as reads
+use Rattle.commands.proofs.onward.Lts as lts
+use Rattle.commands.proofs.goto.Reads as goto-reads
+use Rattle.std.proofs.num.wrapping_add_u32.Reads as wrapping-add-u32-reads
+
+-- src/lib.rt:74:13
+wrapping-add-u32-requires : tie.Need-wrapping-add-u32-requires
+wrapping-add-u32-requires c κs = search needs
+
+-- src/lib.rt:74:5
+goto-requires : tie.Need-goto-requires
+goto-requires c κs = search needs
+
+-- src/lib.rt:71:1
+returns : tie.Need-returns
+unfolding onwardIn
+returns c = rw (c .before .wrapping-add-u32 .ensures) at (c .goto .ensures)
+
+pub onward-spec : {M : Type 1} → statement M
+onward-spec = tie.close (tie.spec wrapping-add-u32-requires goto-requires returns)

@@ -1,0 +1,19 @@
+use mathlib.Core.Path.{refl}
+use Rattle.commands.specs.Stepped.{startStore}
+use borrow.Author.Needs.{needs}
+use Rattle.commands.proofs.start_store.Statement.{statement}
+use Rattle.commands.proofs.start_store.Tie as tie
+use Rattle.commands.proofs.start_store.Reads as reads
+use Rattle.commands.proofs.start_store.Lts as lts
+
+-- src/lib.rt:118:5
+array-write-store : tie.Need-array-write-store
+array-write-store c = search needs
+
+-- src/lib.rt:114:1
+returns : tie.Need-returns
+unfolding startStore
+returns c = refl
+
+pub start-store-spec : {M : Type 1} → statement M
+start-store-spec = tie.close (tie.spec array-write-store returns)

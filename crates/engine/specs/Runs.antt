@@ -1,0 +1,78 @@
+-- What the two runs of the engine need: where a path begins; that with known inputs no term is made and no fork taken; and that a command
+-- makes few terms, so that counting them in 32 bits is exact while the pool is not overfull. Assumes nothing.
+use Prim.Native.Nat.{ℕ, zero, suc, _+_, _*_, _<_, _≤_}
+use mathlib.Core.Bool.{Bool, true, false}
+use mathlib.Core.Path.{_≡_, refl, sym, _∙_, ap}
+use mathlib.Core.List.{List, [], _∷_, _++_}
+use mathlib.Core.Option.{Option, none, some}
+use native.Mathlib.Omega.{arith}
+use lib.ListN.{length, getD, set, replicate, length-set, length-replicate, length-append, getD-replicate}
+use lib.Seq.{getD-set-other}
+use lib.Dec.{ltb, leb, eqb}
+use Rattle.gil.specs.Tree.{Op, Expr, num, bool, var, neg, bin, Cmd, assign, ifgoto, call, lookup, mutate, dispose, uSym, iSym, return, fail, vanish}
+use Rattle.gil.specs.Names.{Program}
+use Rattle.gil.specs.Values.{Value, const, term, number, boolean, location, Fit, right, wrong, unlike, fit, Node, sameSort, booleans}
+use Rattle.gil.specs.Machine as Machine
+use Rattle.gil.specs.Machine.{Model, Store, State, Moved, move, settled, exec, eval, operate, fitted, combine, negate, negated, making, theLocation, jump, must, there, give, stop, andThen, _>>=_, _>>_, Result, ok, err, start, frame, procedureAt, commandAt, sortIn}
+use Rattle.gil.specs.Plain.{plain}
+use Rattle.gil.specs.Pool.{Ref, Pool, pooled, added}
+use Rattle.code.specs.Code.{programWords}
+use Rattle.code.specs.WellFormed.{ExprFits, aNumber, aTruth, aVariable, aNot, anOperator, CmdFits, anAssign, aJump, aCall, aLookup, aMutate, aDispose, aUSym, anISym, aReturn, aFail, aVanish, WellFormed}
+use Rattle.values.specs.Laws as Values
+use Rattle.terms.specs.Laws.{Engine, constAs}
+use Rattle.terms.specs.Plain.{plainEngine, Untouched}
+use Rattle.commands.specs.declared.Control.{Control}
+use Rattle.commands.specs.declared.Next.{Next}
+use Rattle.commands.specs.declared.Next.the-variants.{Fork}
+use Rattle.commands.specs.Stepped.{codeWord, startIn, startStore}
+use Rattle.engine.specs.State.{noCells, mainFrame}
+use Rattle.engine.specs.Frames.{new-slot}
+use Rattle.engine.specs.Moves.{StateAs, NextAs, goesOn, hasReturned, hasFailed, hasVanished, hasErred, hasForked}
+use Rattle.engine.specs.Words.{procedure-fits}
+
+-- "`main` starts with its parameter at 0"
+start-word : (z : ℕ) → 0 < z → z < 16 → getD startStore (0 + z) 0 ≡ 0
+unfolding startStore
+start-word z pos few =
+    let e : 0 + z ≡ z = omega arith in
+    ap (λ (i : ℕ). getD (set (replicate 152 0) 0 4294967296) i 0) e
+    ∙ getD-set-other (replicate 152 0) 0 z 4294967296 0 (λ f. absurd (omega arith))
+    ∙ getD-replicate 152 z 0 0 (omega arith)
+
+pub start-as : {M : Model} (E : Engine M) (p : Program) → WellFormed p → StateAs E p (start p) (startIn (programWords p)) startStore []
+unfolding start frame startIn codeWord programWords startStore
+start-as E p well =
+    record {
+      procedure = refl;
+      command = refl;
+      inputs = refl;
+      locations = refl;
+      whole = length-set {A = ℕ} (replicate 152 0) 0 4294967296 ∙ length-replicate {A = ℕ} 152 0;
+      low = omega arith;
+      frames =
+          mainFrame
+          (record {
+            slots = λ z few.
+                new-slot (E .TermAs) (constAs (Values.aNumber {n = 0} (omega arith))) (procedureAt p (p .main) .variables) z startStore 0
+                (procedure-fits p well (p .main) (well .mainThere) .someVariable) few refl start-word;
+            size = length-set (replicate (procedureAt p (p .main) .variables) none) 0 (some (const (number 0)))
+                ∙ length-replicate (procedureAt p (p .main) .variables) none;
+            there = well .mainThere;
+          });
+      cells = noCells;
+    }
+
+-- with known inputs no fork is taken; that no term is made is `Untouched`, the world of `plainEngine`
+pub no-fork : (inputs : List ℕ) (fits : (i : ℕ) → getD inputs i 0 < 4294967296) (pool : List ℕ) (count : ℕ) {p : Program}
+    {store store′ : List ℕ} {ds ds′ : List (Machine.Cell ℕ)} {n : Machine.Next (plain inputs .Term)} {r : Next}
+    → NextAs (plainEngine inputs fits pool count) p store ds n r store′ ds′
+    → (t : ℕ) (a b : Control)
+    → r ≡ Fork t a b
+    → ⊥
+unfolding plain
+no-fork inputs fits pool count (goesOn h) t a b e = let z : _≡_ {A = ℕ} 0 1 = cc in omega arith
+no-fork inputs fits pool count (hasReturned h) t a b e = let z : _≡_ {A = ℕ} 0 1 = cc in omega arith
+no-fork inputs fits pool count (hasFailed h) t a b e = let z : _≡_ {A = ℕ} 0 1 = cc in omega arith
+no-fork inputs fits pool count hasVanished t a b e = let z : _≡_ {A = ℕ} 0 1 = cc in omega arith
+no-fork inputs fits pool count hasErred t a b e = let z : _≡_ {A = ℕ} 0 1 = cc in omega arith
+no-fork inputs fits pool count (hasForked {t = u} h j k) t a b e = absurd u
