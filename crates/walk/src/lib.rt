@@ -1,0 +1,220 @@
+// The exploration: "As the plain run, over terms". A path is followed to the next fork; there it recurses, "true branch first, to its end, and
+// then the false one", and the waiting branch stands on the call stack with its store, its cells and its conditions. Each finished row is
+// written into its own part of the lent table, and terms into the lent pool in the order made. specs/Walked.antt has the words;
+// specs/Laws.antt shows that on a program's words they are document 01's table and pool.
+ghost use mathlib.Core.Path.{_≡_};
+ghost use Prim.Native.Nat.{_≤_};
+ghost use lib.ListN.{length};
+ghost use Rattle.cells.specs.Held.{heldIn};
+ghost use Rattle.walk.specs.Walked.{reached, finished, finishIn, conditionOn, fullIn, conditionsWith, branchIn, walksIn, Begins, explored, exploreIn};
+use cells::CELLS;
+use cells::Cell;
+use code::CODE_WORDS;
+use commands::Control;
+use commands::Next;
+use evaluate::STORE_WORDS;
+use path::MOST_TERMS;
+use path::Stop;
+
+const MOST_ROWS: u32 = 64;
+
+const TABLE_FULL: u32 = 9;
+
+const POOL_FULL: u32 = 10;
+
+pub struct Budgets {
+    pub steps: u32,
+    pub branches: u32,
+}
+
+// A branch that waits: where it stands, the steps and conditions so far, its store and its cells
+pub struct Branch {
+    pub control: Control,
+    pub steps: u32,
+    pub branches: u32,
+    pub held: usize,
+    pub conditions: [u32; 16],
+    pub store: [u64; STORE_WORDS],
+    pub cells: [Cell; CELLS],
+}
+
+// The row of a path that stopped so, written into its own part of the table: 0, or 9 where it would be the 65th
+fn finish(
+    code: &[u32; CODE_WORDS],
+    f: Stop,
+    branches: u32,
+    conditions: &[u32; 16],
+    store: &[u64; STORE_WORDS],
+    table: &mut [u8],
+    rows: &mut u32,
+) -> u32
+    requires { ⌜ (f .held ≤ 32) × (length (f .cells) ≡ 32) ⌝ }
+    ensures { λ r. ⌜ finished r (now (rows .exit)) (now (table .exit)) ≡ finishIn (now (code .entry)) branches (now (conditions .entry)) (now (rows .entry)) (now (table .entry)) (f .cut) (f .next) (f .control) (f .steps) (now (store .entry)) (heldIn (f .held) (f .cells)) ⌝ }
+{
+    let number = *rows;
+    if MOST_ROWS <= number {
+        return TABLE_FULL;
+    }
+    let at = f.control;
+    let next = f.next;
+    let cells = f.cells;
+    let head = path::head(code, f.cut, next, at, f.steps, branches, f.held);
+    rows::finish_row(table, number, head, conditions, store, at.frame, cells);
+    *rows = number + 1;
+    0
+}
+
+// 10: "a 2,049th term would be made". A cut for steps makes none.
+fn full(cut: bool, count: u32) -> bool
+    ensures { λ r. ⌜ r ≡ fullIn cut count ⌝ }
+{
+    if cut { false } else { MOST_TERMS < count }
+}
+
+fn condition(t: u32, truth: u32) -> u32
+    ensures { λ r. ⌜ r ≡ conditionOn t truth ⌝ }
+{
+    std::num::wrapping_add_u32(std::num::wrapping_add_u32(t, t), truth)
+}
+
+// "each branch gains one condition: the term and the truth it must have"
+fn with_condition(conditions: [u32; 16], at: u32, w: u32) -> [u32; 16]
+    ensures { λ r. ⌜ r ≡ conditionsWith at w conditions ⌝ }
+{
+    let mut out = conditions;
+    let i = at as usize;
+    if i < 16 {
+        out[i] = w;
+    }
+    out
+}
+
+fn waiting(
+    f: Stop,
+    to: Control,
+    branches: u32,
+    conditions: [u32; 16],
+    store: [u64; STORE_WORDS],
+) -> Branch
+    ensures { λ r. ⌜ r ≡ branchIn f to branches conditions store ⌝ }
+{
+    let cells = f.cells;
+    Branch {
+        control: to,
+        steps: std::num::wrapping_add_u32(f.steps, 1),
+        branches,
+        held: f.held,
+        conditions,
+        store,
+        cells,
+    }
+}
+
+// The rows that a path adds, to its end: 0, or the refusal that comes first
+fn walk(
+    code: &[u32; CODE_WORDS],
+    budgets: Budgets,
+    from: Branch,
+    table: &mut [u8],
+    rows: &mut u32,
+    pool: &mut [u8],
+    count: &mut u32,
+) -> u32
+    requires { ⌜ from .held ≤ 32 ⌝ }
+    ensures { λ r. ⌜ reached r (now (rows .exit)) (now (table .exit)) (now (pool .exit)) (now (count .exit)) ≡ walksIn (now (code .entry)) budgets from (now (rows .entry)) (now (table .entry)) (now (pool .entry)) (now (count .entry)) ⌝ }
+{
+    let conditions = from.conditions;
+    let cells = from.cells;
+    let mut store = from.store;
+    let f = path::follow(
+        code,
+        from.control,
+        from.steps,
+        budgets.steps,
+        false,
+        &[0; 16],
+        &mut store,
+        from.held,
+        cells,
+        pool,
+        count,
+    );
+    if full(f.cut, *count) {
+        return POOL_FULL;
+    }
+    let next = f.next;
+    let Next::Fork(t, a, b) = next else {
+        return finish(code, f, from.branches, &conditions, &store, table, rows);
+    };
+    if budgets.branches <= from.branches {
+        return finish(code, f, from.branches, &conditions, &store, table, rows);
+    }
+    let deeper = from.branches + 1;
+    let holds = with_condition(conditions, from.branches, condition(t, 1));
+    let r = walk(
+        code,
+        budgets,
+        waiting(f, a, deeper, holds, store),
+        table,
+        rows,
+        pool,
+        count,
+    );
+    if r != 0 {
+        return r;
+    }
+    let fails = with_condition(conditions, from.branches, condition(t, 0));
+    walk(
+        code,
+        budgets,
+        waiting(f, b, deeper, fails, store),
+        table,
+        rows,
+        pool,
+        count,
+    )
+}
+
+// Where every path begins
+fn begin(code: &[u32; CODE_WORDS]) -> Branch
+    ensures { λ r. ⌜ Begins (now (code .entry)) r ⌝ }
+{
+    let control = commands::start(code);
+    let store = commands::start_store();
+    let cells = cells::none();
+    Branch {
+        control,
+        steps: 0,
+        branches: 0,
+        held: 0,
+        conditions: [0; 16],
+        store,
+        cells,
+    }
+}
+
+// Explores into a table and a pool of exactly the needed length: 0, or 9 or 10, which leave both zero
+pub fn explore(code: &[u32; CODE_WORDS], budgets: Budgets, table: &mut [u8], pool: &mut [u8]) -> u32
+    ensures { λ r. ⌜ explored r (now (table .exit)) (now (pool .exit)) ≡ exploreIn (now (code .entry)) (budgets .steps) (budgets .branches) (now (table .entry)) (now (pool .entry)) ⌝ }
+{
+    words::zero(table);
+    words::zero(pool);
+    let mut rows = 0;
+    let mut count = 0;
+    let r = walk(
+        code,
+        budgets,
+        begin(code),
+        table,
+        &mut rows,
+        pool,
+        &mut count,
+    );
+    if r != 0 {
+        words::zero(table);
+        words::zero(pool);
+        return r;
+    }
+    rows::write_heading(table, rows, count);
+    0
+}
