@@ -92,6 +92,15 @@ procedure-first first (suc f) (q ∷ qs) h =
     ∙ procedure-first (first + length (q .body)) f qs (omega arith)
     ∙ omega (arith, length-append (q .body) (bodies (take f qs)))
 
+procedure-variables : (first f : ℕ) (qs : List Procedure) → f < length qs
+    → getD (procedureWords first qs) (3 * f + 1) 0 ≡ getD qs f noProcedure .variables
+unfolding procedureWords noProcedure
+procedure-variables first f [] h = absurd (omega arith)
+procedure-variables first zero (q ∷ qs) h = refl
+procedure-variables first (suc f) (q ∷ qs) h =
+    let e : 3 * suc f + 1 ≡ suc (suc (suc (3 * f + 1))) = omega arith in
+    ap (λ (n : ℕ). getD (procedureWords first (q ∷ qs)) n 0) e ∙ procedure-variables (first + length (q .body)) f qs (omega arith)
+
 procedure-count : (first f : ℕ) (qs : List Procedure) → f < length qs
     → getD (procedureWords first qs) (3 * f + 2) 0 ≡ length (getD qs f noProcedure .body)
 unfolding procedureWords noProcedure
@@ -272,6 +281,13 @@ module _ (p : Program) (ok : WellFormed p) (f : ℕ) (there : f < length (p .pro
   count-is =
       let e : 3 * f + 4 ≡ 2 + (3 * f + 2) = omega arith in
       ap (codeWord (programWords p)) e ∙ code-word (3 * f + 2) (omega arith) ∙ procedure-count 0 f (p .procedures) there
+
+  -- how many variables a frame of the procedure has
+  pub variables-is : codeWord (programWords p) (3 * f + 3) ≡ procedureAt p f .variables
+  unfolding procedureAt noProcedure
+  variables-is =
+      let e : 3 * f + 3 ≡ 2 + (3 * f + 1) = omega arith in
+      ap (codeWord (programWords p)) e ∙ code-word (3 * f + 1) (omega arith) ∙ procedure-variables 0 f (p .procedures) there
 
   first-is : codeWord (programWords p) (3 * f + 2) ≡ length (bodies (take f (p .procedures)))
   first-is =

@@ -1,2 +1,6 @@
 pub mod Followed
 pub mod Turns
+pub mod Few
+pub mod Laws
+pub mod Plain
+pub mod Exploring

@@ -17,7 +17,7 @@ pub record Untouched (pool₀ : List ℕ) (count₀ : ℕ) (w : Unit {0}) (pool 
 abbrev pub NoTerm : ⊥ → ℕ → Type 0
 NoTerm t x = ⊥
 
-pub plainEngine : (inputs : List ℕ) → ((i : ℕ) → getD inputs i 0 < 4294967296) → (pool : List ℕ) (count : ℕ) → Engine (plain inputs)
+unfoldable pub plainEngine : (inputs : List ℕ) → ((i : ℕ) → getD inputs i 0 < 4294967296) → (pool : List ℕ) (count : ℕ) → Engine (plain inputs)
 unfolding plain noSort known freshIn
 plainEngine inputs fits pool count =
     record {

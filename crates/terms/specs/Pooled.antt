@@ -29,7 +29,7 @@ pub record PoolAs (w : Pool) (pool : List ℕ) (count : ℕ) : Type 0 where
   pub counted : count ≡ length w % 4294967296
   pub bytes : length w < 4294967296 → pool ≡ room 40960 (gather nodeBytes (take 2048 w))
 
-ref-tagged : {t : Ref} {x : ℕ} → RefAs t x → TermTag (refSort t) x
+pub ref-tagged : {t : Ref} {x : ℕ} → RefAs t x → TermTag (refSort t) x
 unfolding refSort
 ref-tagged (aNumberTerm {k}) = numberTag {x = 17179869184 + k % 4294967296} (omega arith)
 ref-tagged (aBooleanTerm {k}) = booleanTag {x = 21474836480 + k % 4294967296} (omega arith)
@@ -85,7 +85,7 @@ value-words (termAs (aBooleanTerm {k})) =
     rw (e, f, word-bytes k)
 
 -- a term's bytes
-two-values : {a b : Value Ref} {x y : ℕ} (k : ℕ) → ValueAs RefAs a x → ValueAs RefAs b y
+pub two-values : {a b : Value Ref} {x y : ℕ} (k : ℕ) → ValueAs RefAs a x → ValueAs RefAs b y
     → nodeOf k x y ≡ wordBytes k ++ gather wordBytes (valueWords refTag placeIn a ++ valueWords refTag placeIn b)
 unfolding nodeOf gather
 two-values {a} {b} {x} {y} k p q =
@@ -94,7 +94,7 @@ two-values {a} {b} {x} {y} k p q =
     ∙ ap₂ (λ (l m : List ℕ). l ++ m) (value-words p) (value-words q)
     ∙ sym (gather-append wordBytes (valueWords refTag placeIn a) (valueWords refTag placeIn b)))
 
-one-value : {a : Value Ref} {x : ℕ} (k : ℕ) → ValueAs RefAs a x
+pub one-value : {a : Value Ref} {x : ℕ} (k : ℕ) → ValueAs RefAs a x
     → nodeOf k x 0 ≡ wordBytes k ++ gather wordBytes (valueWords refTag placeIn a ++ (0 ∷ 0 ∷ []))
 unfolding nodeOf gather
 one-value {a} {x} k p =
@@ -103,7 +103,7 @@ one-value {a} {x} k p =
     ∙ ap (λ (l : List ℕ). l ++ gather wordBytes (0 ∷ 0 ∷ [])) (value-words p)
     ∙ sym (gather-append wordBytes (valueWords refTag placeIn a) (0 ∷ 0 ∷ [])))
 
-op-code : (o : Op) → (opWord o + 4294967294) % 4294967296 ≡ opCode o
+pub op-code : (o : Op) → (opWord o + 4294967294) % 4294967296 ≡ opCode o
 unfolding opWord opCode
 op-code plus = refl
 op-code minus = refl
@@ -206,7 +206,7 @@ pool-grows w n false e =
     lt-leb (20 * length w + 20) (length (room 40960 (kept w))) (omega (arith, room-length 40960 (kept w) (kept-length w))) in
     rw f (ap (room 40960) (sym (kept-no-more w n h)))
 
-made-as : {w : Pool} {pool : List ℕ} {count : ℕ} (n : Node Ref) (b : List ℕ) → b ≡ nodeBytes n → PoolAs w pool count
+pub made-as : {w : Pool} {pool : List ℕ} {count : ℕ} (n : Node Ref) (b : List ℕ) → b ≡ nodeBytes n → PoolAs w pool count
     → PoolAs (w ++ (n ∷ [])) (poolWith b count pool) ((count + 1) % 4294967296)
 made-as {w} {pool} {count} n b e h =
     record {
@@ -224,15 +224,15 @@ made-as {w} {pool} {count} n b e h =
         ∙ ap (λ (l : List ℕ). poolWith l (length w) (room 40960 (kept w))) e
         ∙ pool-grows w n (ltb (length w) 2048) refl
 
-number-made : {w : Pool} {pool : List ℕ} {count : ℕ} → PoolAs w pool count
+pub number-made : {w : Pool} {pool : List ℕ} {count : ℕ} → PoolAs w pool count
     → ValueAs RefAs (term (numberTerm (length w))) (17179869184 + count)
 number-made {w} h = rw (h .counted) (termAs aNumberTerm)
 
-boolean-made : {w : Pool} {pool : List ℕ} {count : ℕ} → PoolAs w pool count
+pub boolean-made : {w : Pool} {pool : List ℕ} {count : ℕ} → PoolAs w pool count
     → ValueAs RefAs (term (booleanTerm (length w))) (21474836480 + count)
 boolean-made {w} h = rw (h .counted) (termAs aBooleanTerm)
 
-op-made : (o : Op) {w : Pool} {pool : List ℕ} {count : ℕ} → PoolAs w pool count
+pub op-made : (o : Op) {w : Pool} {pool : List ℕ} {count : ℕ} → PoolAs w pool count
     → ValueAs RefAs (term (refTo (opGivesNumber o) (length w))) (if? (ltb (opWord o) 7) (17179869184 + count) (21474836480 + count))
 unfolding opGivesNumber refTo opWord
 op-made plus h = number-made h
@@ -242,7 +242,7 @@ op-made less h = boolean-made h
 op-made and h = boolean-made h
 op-made or h = boolean-made h
 
-pub pooledEngine : Engine pooled
+unfoldable pub pooledEngine : Engine pooled
 unfolding pooled added givesNumber refTo termIn inputIn freshIn nodeBytes nodeWords gather valueWords
 pooledEngine =
     record {
@@ -256,7 +256,8 @@ pooledEngine =
           };
       makesNeg = λ h p. record { world = made-as (neg (term _)) _ (one-value 2 (termAs p)) h; value = boolean-made h };
       known = false;
-      inputs = [];
+      -- the exploration knows no inputs and passes zeros
+      inputs = replicate 16 0;
       makesInput = λ i few h.
           record { world = made-as (input i) _ (one-value 1 (constAs (aNumber (omega arith)))) h; value = number-made h };
     }
