@@ -151,3 +151,22 @@ module _ {M : Model} (E : Engine M) (p : Program) (ok : WellFormed p) {s : State
       ChangedAs E p store ds (exec M p s (commandAt p (s .control)) w) (engineIn (programWords p) c m (E .known) (E .inputs) ds store pool count))
       (sym (ap₂ (fetchIn (programWords p)) (h .procedure) (h .command)))
       (move-by w pool count (ltb (s .control .command) (length (procedureAt p (s .control .procedure) .body))) refl world)
+
+  -- the next command is one of the program's, or `vanish`: what Growth's bound on the terms it makes asks
+  fits-by : (b : Bool)
+      → ltb (s .control .command) (length (procedureAt p (s .control .procedure) .body)) ≡ b
+      → CmdFits (procedureAt p (s .control .procedure) .variables) (length (p .procedures)) (commandAt p (s .control))
+  unfolding commandAt
+  fits-by true e =
+      let f = s .control .procedure in
+      let there : f < length (p .procedures) = top (E .TermAs) (h .frames) .there in
+      fetch-as p ok f there (s .control .command) (ltb-true _ _ e) .fits
+  fits-by false e =
+      let f = s .control .procedure in
+      let k = s .control .command in
+      let gone : getD (procedureAt p f .body) k vanish ≡ vanish =
+      List·getD-eq-default (procedureAt p f .body) vanish (ltb-false k (length (procedureAt p f .body)) e) in
+      rw gone aVanish
+
+  pub next-fits : CmdFits (procedureAt p (s .control .procedure) .variables) (length (p .procedures)) (commandAt p (s .control))
+  next-fits = fits-by (ltb (s .control .command) (length (procedureAt p (s .control .procedure) .body))) refl
