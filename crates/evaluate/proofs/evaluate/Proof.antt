@@ -3,10 +3,6 @@ use Rattle.evaluate.specs.Evaluated.{evaluateIn, operandIn, operandBy}
 use borrow.Author.Needs.{needs}
 use Rattle.evaluate.proofs.evaluate.Statement.{statement}
 use Rattle.evaluate.proofs.evaluate.Tie as tie
-use Rattle.evaluate.proofs.evaluate.Reads as reads
-use Rattle.evaluate.proofs.evaluate.Lts as lts
-use Rattle.evaluate.proofs.leaf.Reads as leaf-reads
-use Rattle.evaluate.proofs.operator.Reads as operator-reads
 
 -- src/lib.rt:124:9
 leaf-requires : tie.Need-leaf-requires
