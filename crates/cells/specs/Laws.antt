@@ -1,17 +1,16 @@
 -- Laws of the cells in use that the loops go by. Assumes nothing.
-use Prim.Native.Nat.{ℕ, zero, suc, _+_, _-_, _<_, _≤_, min}
-use mathlib.Core.Bool.{Bool, true, false, _||_}
-use mathlib.Core.Path.{_≡_, refl, sym, _∙_, ap, ap₂}
+use Prim.Native.Nat.{ℕ, suc, _+_, _-_, _<_, _≤_, min}
+use mathlib.Core.Bool.{Bool, true, false}
+use mathlib.Core.Path.{_≡_, sym, _∙_, ap, ap₂}
 use mathlib.Core.List.{List, [], _∷_, _++_, map, map-append, append-nil}
-use mathlib.Core.Option.{Option, none, some}
+use mathlib.Core.Option.{some}
 use native.Mathlib.Numerals.{add-one}
 use native.Mathlib.Omega.{arith}
 use lib.ListN.{length, getD, take, drop, set, length-take, drop-of-length-le, take-append-drop, length-map}
 use lib.Dec.{eqb}
-use lib.Seq.{drop-cons, getD-take, take-suc-set, drop-set-lt, append-snoc, take-all, length-take-le}
-use Rattle.gil.specs.Values.{Value, term}
+use lib.Seq.{drop-cons, getD-take, take-suc-set, drop-set-lt, append-snoc, length-take-le}
 use Rattle.gil.specs.Machine as Machine
-use Rattle.gil.specs.Machine.{isAt, isBefore, cellAt, putCell, withoutCells}
+use Rattle.gil.specs.Machine.{isAt, isBefore, cellAt, withoutCells}
 use Rattle.cells.specs.declared.Cell.{Cell}
 use Rattle.cells.specs.declared.Place.{Place}
 use Rattle.cells.specs.declared.Place.the-variants.{Holds, Free}

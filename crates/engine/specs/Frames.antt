@@ -1,8 +1,8 @@
 -- A frame opened for a call: its words, and that the frames stand in the store again. Assumes nothing.
 use Prim.Native.Nat.{ℕ, zero, suc, _+_, _*_, _<_, _≤_}
 use mathlib.Core.Bool.{Bool, true, false}
-use mathlib.Core.Path.{_≡_, refl, sym, _∙_, ap}
-use mathlib.Core.List.{List, [], _∷_}
+use mathlib.Core.Path.{_≡_, refl, _∙_, ap}
+use mathlib.Core.List.{List, _∷_}
 use mathlib.Core.Option.{Option, none, some}
 use native.Mathlib.Numerals.{add-one}
 use native.Mathlib.Omega.{arith}
@@ -16,7 +16,7 @@ use Rattle.gil.specs.Machine.{Caller, Store, frame, procedureAt}
 use Rattle.terms.specs.Laws.{ValueAs}
 use Rattle.evaluate.specs.Laws.{SlotAs, unbound, bound}
 use Rattle.commands.specs.Stepped.{putIn, zerosIn, frameIn}
-use Rattle.engine.specs.State.{FrameAt, ReturnAt, FramesAs, calledFrame, top, frames-kept}
+use Rattle.engine.specs.State.{FramesAs, calledFrame, frames-kept}
 
 -- a word stored
 pub put-is : (at v : ℕ) (store : List ℕ) → at < 152 → putIn at v store ≡ set store at v

@@ -1,20 +1,19 @@
 -- A command makes at most 511 terms: two expressions at most eight deep make at most 255 each. So where the pool is not overfull before a
 -- command, the count of terms after it is exact in 32 bits. Assumes nothing.
-use Prim.Native.Nat.{ℕ, zero, suc, _+_, _<_, _≤_}
+use Prim.Native.Nat.{ℕ, zero, suc, _+_, _≤_}
 use mathlib.Core.Bool.{Bool, true, false}
-use mathlib.Core.Path.{_≡_, refl, sym, _∙_, ap}
-use mathlib.Core.List.{List, [], _∷_, _++_}
+use mathlib.Core.Path.{_≡_, refl, ap}
+use mathlib.Core.List.{[], _∷_}
 use mathlib.Core.Option.{Option, none, some}
 use native.Mathlib.Omega.{arith}
 use lib.ListN.{length, getD, length-append}
 use lib.Dec.{ltb, leb}
 use Rattle.gil.specs.Tree.{Op, Expr, Cmd}
 use Rattle.gil.specs.Names.{Program}
-use Rattle.gil.specs.Values.{Value, const, term, number, boolean, location, Fit, right, wrong, unlike, fit, Node, Sort, sameSort, booleans}
+use Rattle.gil.specs.Values.{Value, const, term, number, boolean, location, Fit, right, wrong, unlike, fit, Node, sameSort, booleans}
 use Rattle.gil.specs.Values as Values
-use Rattle.gil.specs.Machine as Machine
-use Rattle.gil.specs.Machine.{Model, Store, State, Next, move, settled, exec, eval, operate, fitted, combine, negate, negated, making, theLocation, jump, must, there, give, stop, andThen, _>>=_, _>>_, Result, ok, err, commandAt, procedureAt, sortIn, cellAt, putCell, frames, steer, goto, onward, fork}
-use Rattle.gil.specs.Pool.{Ref, Pool, pooled, added, refSort}
+use Rattle.gil.specs.Machine.{Model, Store, State, Next, move, settled, exec, eval, operate, fitted, combine, negate, negated, making, theLocation, jump, must, there, give, stop, andThen, _>>=_, _>>_, Result, ok, err, commandAt, sortIn, cellAt, putCell, frames, steer, goto, onward, fork}
+use Rattle.gil.specs.Pool.{pooled, added}
 use Rattle.code.specs.WellFormed.{ExprFits, aNumber, aTruth, aVariable, aNot, anOperator, CmdFits, anAssign, aJump, aCall, aLookup, aMutate, aDispose, aUSym, anISym, aReturn, aFail, aVanish}
 
 -- how many terms an expression at most so deep can make

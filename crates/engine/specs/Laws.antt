@@ -1,33 +1,32 @@
 -- The engine is document 01's machine: over a well-formed program's words, from a state that stands in words, one command is one `move`. For
 -- the plain run's model (terms' Plain) and for the pool's (terms' Pooled); in the plain run there is no term, so nothing is made and no fork
 -- is taken. Assumes nothing.
-use Prim.Native.Nat.{ℕ, suc, _+_, _<_, _≤_}
+use Prim.Native.Nat.{ℕ, _+_, _<_, _≤_}
 use mathlib.Core.Bool.{Bool, true, false}
 use mathlib.Core.Path.{_≡_, refl, sym, _∙_, ap, ap₂, subst}
-use mathlib.Core.List.{List, [], _∷_, _++_, append-assoc}
+use mathlib.Core.List.{List, [], _++_, append-assoc}
 use native.Mathlib.Omega.{arith}
 use lib.ListN.{length, getD, drop, List·getD-eq-default}
 use lib.Seq.{drop-drop, drop-append-seam}
-use lib.Dec.{ltb, leb, eqb}
+use lib.Dec.{ltb, eqb}
 use borrow.Author.Tests.{ltb-true, ltb-false}
-use Rattle.gil.specs.Tree.{Expr, Cmd, assign, ifgoto, call, lookup, mutate, dispose, uSym, iSym, return, fail, vanish}
+use Rattle.gil.specs.Tree.{Expr, Cmd, lookup, mutate, dispose, vanish}
 use Rattle.gil.specs.Names.{Procedure, Program}
 use Rattle.gil.specs.Machine as Machine
-use Rattle.gil.specs.Machine.{Model, State, Moved, move, settled, exec, eval, ends, failed, vanished, give, procedureAt, commandAt, frames, _>>=_, _>>_}
+use Rattle.gil.specs.Machine.{Model, State, move, settled, exec, eval, give, procedureAt, commandAt, frames, _>>=_, _>>_}
 use Rattle.code.specs.Code.{exprWords, cmdNodes, cmdWords, programWords}
 use Rattle.code.specs.WellFormed.{ExprFits, CmdFits, anAssign, aJump, aCall, aLookup, aMutate, aDispose, aUSym, anISym, aReturn, aFail, aVanish, WellFormed}
 use Rattle.values.specs.Packed.{if?}
-use Rattle.terms.specs.Laws.{Engine, As, EvalAs}
+use Rattle.terms.specs.Laws.{Engine, EvalAs}
 use Rattle.evaluate.specs.Evaluated.{evaluateIn}
 use Rattle.evaluate.specs.Laws.{evaluate-as}
 use Rattle.commands.specs.declared.Control.{Control}
 use Rattle.commands.specs.declared.Command.{Command}
-use Rattle.commands.specs.declared.Next.the-variants.{Failed, Vanished}
 use Rattle.commands.specs.Stepped.{vanishCommand, fetchIn, After, actIn, stepIn}
 use Rattle.actions.specs.Changed.{lookupIn, Changed, changed, mutateSecond, mutateIn, disposeIn, changeIn}
 use Rattle.engine.specs.State.{top}
-use Rattle.engine.specs.Moves.{StateAs, hasFailed, hasVanished, MovedAs, SteppedAs, ChangedAs, value-as, operand-as, assign-as, jump-as, enter-by, locate-by, receive-by, look-as, mutate-as, dispose-as, leave-as}
-use Rattle.engine.specs.Words.{ofWords, FetchedAs, program-length, procedure-fits, body-few, past-end, fetch-as}
+use Rattle.engine.specs.Moves.{StateAs, hasFailed, hasVanished, MovedAs, ChangedAs, value-as, operand-as, assign-as, jump-as, enter-by, locate-by, receive-by, look-as, mutate-as, dispose-as, leave-as}
+use Rattle.engine.specs.Words.{ofWords, program-length, procedure-fits, body-few, past-end, fetch-as}
 
 -- the engine's move: `lookup` and `change` for the actions on cells, and `step` for every other command
 abbrev pub ofAfter : After → List (Machine.Cell ℕ) → Changed
@@ -151,3 +150,22 @@ module _ {M : Model} (E : Engine M) (p : Program) (ok : WellFormed p) {s : State
       ChangedAs E p store ds (exec M p s (commandAt p (s .control)) w) (engineIn (programWords p) c m (E .known) (E .inputs) ds store pool count))
       (sym (ap₂ (fetchIn (programWords p)) (h .procedure) (h .command)))
       (move-by w pool count (ltb (s .control .command) (length (procedureAt p (s .control .procedure) .body))) refl world)
+
+  -- the next command is one of the program's, or `vanish`: what Growth's bound on the terms it makes asks
+  fits-by : (b : Bool)
+      → ltb (s .control .command) (length (procedureAt p (s .control .procedure) .body)) ≡ b
+      → CmdFits (procedureAt p (s .control .procedure) .variables) (length (p .procedures)) (commandAt p (s .control))
+  unfolding commandAt
+  fits-by true e =
+      let f = s .control .procedure in
+      let there : f < length (p .procedures) = top (E .TermAs) (h .frames) .there in
+      fetch-as p ok f there (s .control .command) (ltb-true _ _ e) .fits
+  fits-by false e =
+      let f = s .control .procedure in
+      let k = s .control .command in
+      let gone : getD (procedureAt p f .body) k vanish ≡ vanish =
+      List·getD-eq-default (procedureAt p f .body) vanish (ltb-false k (length (procedureAt p f .body)) e) in
+      rw gone aVanish
+
+  pub next-fits : CmdFits (procedureAt p (s .control .procedure) .variables) (length (p .procedures)) (commandAt p (s .control))
+  next-fits = fits-by (ltb (s .control .command) (length (procedureAt p (s .control .procedure) .body))) refl

@@ -1,34 +1,33 @@
 -- Each command over words is that command of document 01's machine: from a state that stands in words to what stands in words again. Assumes
 -- nothing.
-use Prim.Native.Nat.{ℕ, zero, suc, _+_, _-_, _*_, _/_, _%_, _<_, _≤_}
+use Prim.Native.Nat.{ℕ, suc, _+_, _-_, _*_, _/_, _%_, _<_, _≤_}
 use mathlib.Core.Bool.{Bool, true, false}
-use mathlib.Core.Path.{_≡_, refl, sym, _∙_, ap, subst}
-use mathlib.Core.List.{List, [], _∷_}
-use mathlib.Core.Option.{Option, none, some}
+use mathlib.Core.Path.{_≡_, refl, _∙_, ap}
+use mathlib.Core.List.{List}
+use mathlib.Core.Option.{Option}
 use native.Mathlib.Nat.{mod-eq-of-lt}
 use native.Mathlib.Numerals.{add-one}
 use native.Mathlib.Omega.{arith}
-use lib.ListN.{length, getD, set, length-set}
+use lib.ListN.{length, getD, length-set}
 use lib.Dec.{ltb, leb, eqb}
 use borrow.Author.Tests.{eq-eqb, ne-eqb, lt-ltb, le-ltb, le-leb, lt-leb, ltb-true, ltb-false, leb-true, leb-false}
 use Rattle.gil.specs.Names.{Program}
-use Rattle.gil.specs.Values.{Value, const, term, Constant, number, boolean, location, Sort, numbers, booleans, locations, sameSort}
+use Rattle.gil.specs.Values.{Value, const, term, boolean, location, Sort, numbers, booleans, locations, sameSort}
 use Rattle.gil.specs.Values as Values
 use Rattle.gil.specs.Machine as Machine
 use Rattle.gil.specs.Machine.{Model, Caller, Store, State, Moved, settled, on, ends, fork, returned, failed, vanished, error, Result, ok, err, andThen, _>>=_, _>>_, give, stop, must, there, procedureAt, goto, onward, entered, backTo, withInput, withLocation, frames, steer, assigned, withCells, frame, topStore, belowTop, opened, closed, returnsTo, making, theLocation, jump, cellAt, putCell, withoutCells}
 use Rattle.values.specs.Packed.{if?, truthWord}
 use Rattle.values.specs.Laws.{aNumber, aTruth, aLocation}
-use Rattle.terms.specs.Made.{Did, did}
-use Rattle.terms.specs.Laws.{Engine, ValueAs, constAs, termAs, TermTag, numberTag, booleanTag, MadeAs, As, EvalAs, gives, errs, value-low, freshIn}
+use Rattle.terms.specs.Made.{Did}
+use Rattle.terms.specs.Laws.{Engine, constAs, termAs, TermTag, numberTag, booleanTag, MadeAs, As, EvalAs, gives, errs, value-low, freshIn}
 use Rattle.evaluate.specs.Laws.{SlotAs, unbound, bound}
-use Rattle.cells.specs.Held.{foundIn}
 use Rattle.commands.specs.declared.Control.{Control}
 use Rattle.commands.specs.declared.Command.{Command}
 use Rattle.commands.specs.declared.Next.{Next}
 use Rattle.commands.specs.declared.Next.the-variants.{On, Returned, Failed, Vanished, Error, Fork}
 use Rattle.commands.specs.Stepped.{movedIn, gotoIn, onwardIn, putIn, wordIn, frameIn, Acted, acted, assignIn, jumpIn, enterIn, leaveIn, withLocationIn, withInputIn, locateIn, After, after, afterActed, receiveIn, onValue}
-use Rattle.actions.specs.Changed.{lookAt, Kept, keeping, mutateAt, disposeAt, Changed, changed, onOperand, put-length}
-use Rattle.engine.specs.State.{CellsAs, FrameAt, ReturnAt, FramesAs, mainFrame, calledFrame, top, depth, frames-set}
+use Rattle.actions.specs.Changed.{lookAt, keeping, mutateAt, disposeAt, Changed, changed, onOperand, put-length}
+use Rattle.engine.specs.State.{CellsAs, FrameAt, FramesAs, mainFrame, calledFrame, top, depth, frames-set}
 use Rattle.engine.specs.Frames.{put-is, frame-whole, frames-entered}
 use Rattle.engine.specs.Memory.{find-as, put-as, without-as, cells-length}
 

@@ -1,26 +1,22 @@
 -- What the two runs of the engine need: where a path begins; that with known inputs no term is made and no fork taken; and that a command
 -- makes few terms, so that counting them in 32 bits is exact while the pool is not overfull. Assumes nothing.
-use Prim.Native.Nat.{ℕ, zero, suc, _+_, _*_, _<_, _≤_}
-use mathlib.Core.Bool.{Bool, true, false}
-use mathlib.Core.Path.{_≡_, refl, sym, _∙_, ap}
-use mathlib.Core.List.{List, [], _∷_, _++_}
-use mathlib.Core.Option.{Option, none, some}
+use Prim.Native.Nat.{ℕ, _+_, _<_}
+use mathlib.Core.Path.{_≡_, refl, _∙_, ap}
+use mathlib.Core.List.{List, []}
+use mathlib.Core.Option.{none, some}
 use native.Mathlib.Omega.{arith}
-use lib.ListN.{length, getD, set, replicate, length-set, length-replicate, length-append, getD-replicate}
+use lib.ListN.{getD, set, replicate, length-set, length-replicate, getD-replicate}
 use lib.Seq.{getD-set-other}
-use lib.Dec.{ltb, leb, eqb}
-use Rattle.gil.specs.Tree.{Op, Expr, num, bool, var, neg, bin, Cmd, assign, ifgoto, call, lookup, mutate, dispose, uSym, iSym, return, fail, vanish}
 use Rattle.gil.specs.Names.{Program}
-use Rattle.gil.specs.Values.{Value, const, term, number, boolean, location, Fit, right, wrong, unlike, fit, Node, sameSort, booleans}
+use Rattle.gil.specs.Values.{const, number}
 use Rattle.gil.specs.Machine as Machine
-use Rattle.gil.specs.Machine.{Model, Store, State, Moved, move, settled, exec, eval, operate, fitted, combine, negate, negated, making, theLocation, jump, must, there, give, stop, andThen, _>>=_, _>>_, Result, ok, err, start, frame, procedureAt, commandAt, sortIn}
+use Rattle.gil.specs.Machine.{Model, there, _>>=_, _>>_, start, frame, procedureAt}
 use Rattle.gil.specs.Plain.{plain}
-use Rattle.gil.specs.Pool.{Ref, Pool, pooled, added}
 use Rattle.code.specs.Code.{programWords}
-use Rattle.code.specs.WellFormed.{ExprFits, aNumber, aTruth, aVariable, aNot, anOperator, CmdFits, anAssign, aJump, aCall, aLookup, aMutate, aDispose, aUSym, anISym, aReturn, aFail, aVanish, WellFormed}
+use Rattle.code.specs.WellFormed.{aNumber, WellFormed}
 use Rattle.values.specs.Laws as Values
 use Rattle.terms.specs.Laws.{Engine, constAs}
-use Rattle.terms.specs.Plain.{plainEngine, Untouched}
+use Rattle.terms.specs.Plain.{plainEngine}
 use Rattle.commands.specs.declared.Control.{Control}
 use Rattle.commands.specs.declared.Next.{Next}
 use Rattle.commands.specs.declared.Next.the-variants.{Fork}

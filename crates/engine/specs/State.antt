@@ -1,10 +1,10 @@
 -- How a state of document 01's machine stands in words: control, the frames in the store, the cells in use. Over any model of terms that
 -- stands in words. Assumes nothing.
-use Prim.Native.Nat.{ℕ, zero, suc, _+_, _*_, _<_, _≤_}
+use Prim.Native.Nat.{ℕ, suc, _+_, _*_, _<_}
 use mathlib.Core.Bool.{Bool, true, false}
-use mathlib.Core.Path.{_≡_, refl, sym, _∙_, ap, ap₂}
+use mathlib.Core.Path.{_≡_, refl, _∙_, ap}
 use mathlib.Core.List.{List, [], _∷_}
-use mathlib.Core.Option.{Option, none, some}
+use mathlib.Core.Option.{none, some}
 use native.Mathlib.Omega.{arith}
 use lib.ListN.{length, getD, set, length-set}
 use lib.Seq.{getD-set-same, getD-set-other}
@@ -13,12 +13,9 @@ use borrow.Author.Tests.{eqb-true, eqb-false}
 use Rattle.gil.specs.Names.{Program}
 use Rattle.gil.specs.Values.{Value, term}
 use Rattle.gil.specs.Machine as Machine
-use Rattle.gil.specs.Machine.{Model, Caller, Store, State, procedureAt, isAt, isBefore, cellAt, putCell, withoutCells}
-use Rattle.terms.specs.Laws.{Engine, ValueAs}
-use Rattle.evaluate.specs.Laws.{SlotAs, unbound, bound, FrameAs}
-use Rattle.cells.specs.Held.{foundIn}
-use Rattle.cells.specs.Laws.{at-here, at-later, without-here, without-other}
-use Rattle.commands.specs.declared.Control.{Control}
+use Rattle.gil.specs.Machine.{Caller, Store, procedureAt}
+use Rattle.terms.specs.Laws.{ValueAs}
+use Rattle.evaluate.specs.Laws.{SlotAs, bound, FrameAs}
 
 module _ {T : Type 0} (TermAs : T → ℕ → Type 0) where
   -- cells and their words

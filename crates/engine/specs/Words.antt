@@ -1,21 +1,18 @@
 -- Where a well-formed program's words stand: the next command's five words and its expressions, and `vanish` past the end of a procedure.
 -- Assumes nothing.
 use Prim.Native.Nat.{ℕ, zero, suc, _+_, _-_, _*_, _<_, _≤_}
-use mathlib.Core.Bool.{Bool, true, false}
 use mathlib.Core.Path.{_≡_, refl, sym, _∙_, ap, ap₂}
 use mathlib.Core.List.{List, [], _∷_, _++_, append-assoc}
 use native.Mathlib.Omega.{arith}
-use lib.ListN.{length, getD, take, drop, replicate, length-append, length-take, length-replicate, List·getD-append, List·getD-eq-default}
+use lib.ListN.{length, getD, take, drop, replicate, length-append, length-replicate, List·getD-append}
 use lib.Seq.{split-at, getD-append-add, drop-append-add, drop-append-le, drop-append-seam, length-take-le}
-use lib.Dec.{ltb}
 use borrow.Author.Tests.{lt-ltb, le-ltb}
 use Rattle.gil.specs.Tree.{Cmd, assign, ifgoto, call, lookup, mutate, dispose, uSym, iSym, return, fail, vanish}
 use Rattle.gil.specs.Names.{gather, Procedure, Program}
 use Rattle.gil.specs.Layout.{room}
 use Rattle.gil.specs.Machine.{procedureAt}
-use Rattle.code.specs.Code.{exprWords, cmdNodes, cmdWords, commandWords, procedureWords, allCommands, programWords}
-use Rattle.code.specs.WellFormed.{Each, none, more, CmdFits, aVanish, ProcedureFits, WellFormed}
-use Rattle.values.specs.Packed.{if?}
+use Rattle.code.specs.Code.{cmdNodes, cmdWords, commandWords, procedureWords, allCommands, programWords}
+use Rattle.code.specs.WellFormed.{Each, none, more, CmdFits, ProcedureFits, WellFormed}
 use Rattle.commands.specs.declared.Command.{Command}
 use Rattle.commands.specs.Stepped.{codeWord, vanishCommand, commandIn, fetchIn}
 

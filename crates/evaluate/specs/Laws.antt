@@ -1,26 +1,25 @@
 -- On the words of an expression tree, where they stand, evaluation over words is document 01's evaluation of the tree, for every model that
 -- stands in words. Assumes nothing.
-use Prim.Native.Nat.{ℕ, zero, suc, _+_, _*_, _<_, _≤_}
+use Prim.Native.Nat.{ℕ, suc, _+_, _*_, _<_, _≤_}
 use mathlib.Core.Bool.{Bool, true, false}
 use mathlib.Core.Path.{_≡_, refl, sym, _∙_, ap}
-use mathlib.Core.List.{List, [], _∷_, _++_, append-assoc}
+use mathlib.Core.List.{List, _∷_, _++_, append-assoc}
 use mathlib.Core.Option.{Option, none, some}
 use native.Mathlib.Nat.{add-zero}
-use native.Mathlib.Numerals.{add-one}
 use native.Mathlib.Omega.{arith}
 use lib.ListN.{length, getD, drop, length-drop}
 use lib.Seq.{getD-drop, drop-drop, drop-append-seam}
-use lib.Dec.{ltb, eqb}
-use borrow.Author.Tests.{eq-eqb, ne-eqb, lt-ltb, le-ltb}
-use Rattle.gil.specs.Tree.{Op, plus, minus, equal, less, and, or, Expr, num, bool, var, neg, bin}
-use Rattle.gil.specs.Values.{Value, boolean}
+use lib.Dec.{eqb}
+use borrow.Author.Tests.{ne-eqb, lt-ltb, le-ltb}
+use Rattle.gil.specs.Tree.{Op, plus, minus, equal, less, and, or, Expr}
+use Rattle.gil.specs.Values.{Value}
 use Rattle.gil.specs.Layout.{bit}
-use Rattle.gil.specs.Machine.{Model, Store, Result, ok, err, andThen, _>>=_, give, stop, there, eval, negate, operate}
+use Rattle.gil.specs.Machine.{Model, Store, Result, andThen, _>>=_, give, stop, there, eval}
 use Rattle.code.specs.Code.{opWord, exprWords}
 use Rattle.code.specs.WellFormed.{ExprFits, aNumber, aTruth, aVariable, aNot, anOperator}
 use Rattle.values.specs.Packed.{if?, truthWord}
 use Rattle.values.specs.Laws as Values
-use Rattle.terms.specs.Made.{Did, did, operateIn, negateIn}
+use Rattle.terms.specs.Made.{Did, did}
 use Rattle.terms.specs.Laws.{Engine, ValueAs, constAs, As, EvalAs, gives, errs, value-low, operate-as, negate-as}
 use Rattle.evaluate.specs.Evaluated.{andThenIn, variableIn, leafOf, leafIn, operandBy, secondBy, operatorBy, operatorIn, operandIn, evaluateIn}
 

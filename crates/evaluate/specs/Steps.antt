@@ -6,7 +6,7 @@ use native.Mathlib.Numerals.{sub-one}
 use lib.ListN.{getD}
 use borrow.Author.Tests.{eq-eqb, ne-eqb, lt-ltb, le-ltb}
 use Rattle.terms.specs.Made.{Did, did, operateIn, negateIn}
-use Rattle.evaluate.specs.Evaluated.{andThenIn, operandBy, secondBy, operatorBy, operatorIn, operandIn}
+use Rattle.evaluate.specs.Evaluated.{andThenIn, secondBy, operatorBy, operatorIn, operandIn}
 
 pub then-stops : {a n : ℕ} {p : List ℕ} {D : Did} (f : ℕ → List ℕ → ℕ → Did) → did a p n ≡ D → a < 4294967296 → did a p n ≡ andThenIn D f
 unfolding andThenIn

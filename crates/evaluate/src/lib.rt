@@ -110,6 +110,7 @@ fn operator(
     terms::operate(pool, count, kind, a, b)
 }
 
+// As `operand`, and not by a call of it: the compiler then takes `operand` into `operator`, so that a leaf costs no call.
 pub fn evaluate(
     code: &[u32; CODE_WORDS],
     at: u32,
@@ -120,5 +121,9 @@ pub fn evaluate(
 ) -> u64
     ensures { λ r. ⌜ did r (now (pool .exit)) (now (count .exit)) ≡ evaluateIn (now (code .entry)) (now (store .entry)) frame at (now (pool .entry)) (now (count .entry)) ⌝ }
 {
-    operand(code, at as usize, DEPTH, store, frame, pool, count)
+    let v = leaf(code, at as usize, store, frame);
+    if v == 0 {
+        return operator(code, at as usize, DEPTH, store, frame, pool, count);
+    }
+    v
 }

@@ -1,18 +1,18 @@
 -- The functions of `Made` are the machine's actions, for any model whose terms and world stand in words: what `Engine` asks of a model.
 -- Proved once for the plain run's model and for the pool's (Plain, Pooled). Assumes nothing.
 use Prim.Native.Nat.{ℕ, _+_, _/_, _%_, _<_, _≤_}
-use mathlib.Core.Bool.{Bool, true, false}
-use mathlib.Core.Path.{_≡_, refl, sym, _∙_, ap}
-use mathlib.Core.List.{List, [], _∷_}
+use mathlib.Core.Bool.{Bool, false}
+use mathlib.Core.Path.{_≡_, refl}
+use mathlib.Core.List.{List}
 use native.Mathlib.Omega.{arith}
 use lib.ListN.{getD}
 use lib.Dec.{ltb, eqb}
 use borrow.Author.Tests.{lt-ltb, le-ltb}
 use Rattle.gil.specs.Tree.{Op}
-use Rattle.gil.specs.Values.{Constant, number, boolean, location, Sort, numbers, booleans, locations, sortOf, sameSort, Fit, right, wrong, unlike, fit, workNot, Value, const, term, Node, input, neg, bin}
-use Rattle.gil.specs.Machine.{Model, Result, ok, err, Val, sortIn, operate, fitted, combine, making, negate, negated, must, give, stop, andThen, _>>_}
+use Rattle.gil.specs.Values.{Constant, Sort, numbers, booleans, locations, sortOf, sameSort, Fit, right, wrong, unlike, fit, Value, const, term, Node, input, neg, bin}
+use Rattle.gil.specs.Machine.{Model, Result, ok, err, sortIn, operate, fitted, combine, making, negate, negated, must, give, stop, andThen, _>>_}
 use Rattle.code.specs.Code.{opWord}
-use Rattle.values.specs.Packed.{if?, truthWord, sortWord, fitWord, workWord}
+use Rattle.values.specs.Packed.{if?, truthWord, sortWord, workWord}
 use Rattle.values.specs.Laws.{ConstAs, aNumber, aTruth, aLocation, sortCode, fitCode, sort-of-tag, const-sort, const-low, const-high, fit-law, work-law, not-law}
 use Rattle.terms.specs.Made.{Did, did, nodeOf, poolWith, inputIn, termIn, operateIn, negateIn}
 

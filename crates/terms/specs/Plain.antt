@@ -2,12 +2,12 @@
 -- pool and the count stay what they were. Assumes nothing.
 use Prim.Native.Nat.{ℕ, _<_}
 use mathlib.Core.Bool.{true}
-use mathlib.Core.Path.{_≡_, refl}
+use mathlib.Core.Path.{_≡_}
 use mathlib.Core.List.{List}
 use lib.ListN.{getD}
 use Rattle.gil.specs.Plain.{plain, noSort, known}
 use Rattle.values.specs.Laws.{aNumber}
-use Rattle.terms.specs.Laws.{Engine, constAs, TermTag, freshIn}
+use Rattle.terms.specs.Laws.{Engine, constAs, freshIn}
 
 -- the pool and the count are still these
 pub record Untouched (pool₀ : List ℕ) (count₀ : ℕ) (w : Unit {0}) (pool : List ℕ) (count : ℕ) : Type 0 where

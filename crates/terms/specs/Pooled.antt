@@ -12,14 +12,14 @@ use lib.Dec.{ltb, leb}
 use borrow.Author.Tests.{le-leb, lt-leb, ltb-true, ltb-false}
 use Rattle.gil.specs.Tree.{Op, plus, minus, equal, less, and, or}
 use Rattle.gil.specs.Names.{gather}
-use Rattle.gil.specs.Values.{Constant, number, boolean, location, Value, const, term, Node, input, neg, bin, opGivesNumber, givesNumber}
+use Rattle.gil.specs.Values.{number, boolean, location, Value, const, term, Node, input, neg, bin, opGivesNumber, givesNumber}
 use Rattle.gil.specs.Pool.{Ref, numberTerm, booleanTerm, refSort, placeIn, Pool, refTo, added, pooled}
 use Rattle.gil.specs.Layout.{wordBytes, room, bit, constantWords, valueWords, refTag, opCode, nodeWords, nodeBytes}
 use Rattle.code.specs.Code.{opWord}
 use Rattle.values.specs.Packed.{if?, truthWord}
-use Rattle.values.specs.Laws.{ConstAs, aNumber, aTruth, aLocation}
-use Rattle.terms.specs.Made.{did, nodeOf, poolWith, inputIn, termIn}
-use Rattle.terms.specs.Laws.{Engine, ValueAs, constAs, termAs, TermTag, numberTag, booleanTag, MadeAs, freshIn}
+use Rattle.values.specs.Laws.{aNumber, aTruth, aLocation}
+use Rattle.terms.specs.Made.{nodeOf, poolWith, inputIn, termIn}
+use Rattle.terms.specs.Laws.{Engine, ValueAs, constAs, termAs, TermTag, numberTag, booleanTag, freshIn}
 
 pub data RefAs : Ref → ℕ → Type 0 where
   aNumberTerm : {k : ℕ} → RefAs (numberTerm k) (17179869184 + k % 4294967296)

@@ -1,8 +1,8 @@
 -- The words of `Packed` are document 01's values, sorts and operators: which word stands for a constant, and that the operators on words
 -- answer the word of what the definitions answer. Assumes nothing.
 use Prim.Native.Nat.{ℕ, _+_, _-_, _/_, _%_, _<_, _≤_}
-use mathlib.Core.Bool.{Bool, true, false, not}
-use mathlib.Core.Path.{_≡_, refl, _∙_, ap}
+use mathlib.Core.Bool.{Bool, true, false}
+use mathlib.Core.Path.{_≡_, refl}
 use native.Mathlib.Omega.{arith}
 use lib.Dec.{ltb, eqb}
 use Rattle.gil.specs.Tree.{Op, plus, minus, equal, less, and, or}

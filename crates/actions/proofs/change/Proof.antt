@@ -3,10 +3,6 @@ use Rattle.actions.specs.Changed.{changeIn}
 use borrow.Author.Needs.{needs}
 use Rattle.actions.proofs.change.Statement.{statement}
 use Rattle.actions.proofs.change.Tie as tie
-use Rattle.actions.proofs.change.Reads as reads
-use Rattle.actions.proofs.change.Lts as lts
-use Rattle.actions.proofs.dispose.Reads as dispose-reads
-use Rattle.actions.proofs.mutate.Reads as mutate-reads
 
 -- src/lib.rt:176:9
 mutate-requires : tie.Need-mutate-requires

@@ -3,12 +3,6 @@ use Rattle.actions.specs.Changed.{disposeIn, changed-to, operand-errs, o
 use borrow.Author.Needs.{needs}
 use Rattle.actions.proofs.dispose.Statement.{statement}
 use Rattle.actions.proofs.dispose.Tie as tie
-use Rattle.actions.proofs.dispose.Reads as reads
-use Rattle.actions.proofs.dispose.Lts as lts
-use Rattle.actions.proofs.dispose_at.Reads as dispose-at-reads
-use Rattle.actions.proofs.remember.Reads as remember-reads
-use Rattle.evaluate.proofs.evaluate.Reads as evaluate-reads
-use Rattle.values.proofs.word.Reads as word-reads
 
 -- src/lib.rt:155:9
 evaluate-requires : tie.Need-evaluate-requires

@@ -1,5 +1,5 @@
-use Prim.Native.Nat.{ℕ, _%_, _<_, _≤_}
-use mathlib.Core.Path.{_≡_, refl, sym, _∙_, ap}
+use Prim.Native.Nat.{_%_}
+use mathlib.Core.Path.{_≡_, refl, sym, _∙_}
 use native.Mathlib.Omega.{arith}
 use lib.ListN.{length}
 use Rattle.gil.specs.Machine.{withoutCells}
@@ -9,15 +9,6 @@ use Rattle.actions.specs.Changed.{same-remembered, unchanged, remembers,
 use borrow.Author.Needs.{needs}
 use Rattle.actions.proofs.dispose_at.Statement.{statement}
 use Rattle.actions.proofs.dispose_at.Tie as tie
-use Rattle.actions.proofs.dispose_at.Reads as reads
-use Rattle.actions.proofs.dispose_at.Lts as lts
-use Rattle.actions.proofs.remember.Reads as remember-reads
-use Rattle.cells.proofs.kept.Reads as kept-reads
-use Rattle.cells.proofs.take_out.Reads as take-out-reads
-use Rattle.commands.proofs.assign.Reads as assign-reads
-use Rattle.values.proofs.tag.Reads as tag-reads
-use Rattle.values.proofs.truth.Reads as truth-reads
-use Rattle.values.proofs.word.Reads as word-reads
 
 -- src/lib.rt:107:8
 tag-requires : tie.Need-tag-requires

@@ -3,12 +3,6 @@ use Rattle.actions.specs.Changed.{lookAt}
 use borrow.Author.Needs.{needs}
 use Rattle.actions.proofs.look.Statement.{statement}
 use Rattle.actions.proofs.look.Tie as tie
-use Rattle.actions.proofs.look.Reads as reads
-use Rattle.actions.proofs.look.Lts as lts
-use Rattle.cells.proofs.find.Reads as find-reads
-use Rattle.commands.proofs.assign.Reads as assign-reads
-use Rattle.values.proofs.tag.Reads as tag-reads
-use Rattle.values.proofs.word.Reads as word-reads
 
 -- src/lib.rt:37:8
 tag-requires : tie.Need-tag-requires

@@ -3,11 +3,6 @@ use Rattle.commands.specs.Stores.{value-errs, value-acts}
 use borrow.Author.Needs.{needs}
 use Rattle.actions.proofs.lookup.Statement.{statement}
 use Rattle.actions.proofs.lookup.Tie as tie
-use Rattle.actions.proofs.lookup.Reads as reads
-use Rattle.actions.proofs.lookup.Lts as lts
-use Rattle.actions.proofs.look.Reads as look-reads
-use Rattle.evaluate.proofs.evaluate.Reads as evaluate-reads
-use Rattle.values.proofs.word.Reads as word-reads
 
 -- src/lib.rt:59:9
 evaluate-requires : tie.Need-evaluate-requires

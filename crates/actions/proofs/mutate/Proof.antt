@@ -3,12 +3,6 @@ use Rattle.actions.specs.Changed.{mutateIn, mutateSecond, changed-to, op
 use borrow.Author.Needs.{needs}
 use Rattle.actions.proofs.mutate.Statement.{statement}
 use Rattle.actions.proofs.mutate.Tie as tie
-use Rattle.actions.proofs.mutate.Reads as reads
-use Rattle.actions.proofs.mutate.Lts as lts
-use Rattle.actions.proofs.mutate_at.Reads as mutate-at-reads
-use Rattle.actions.proofs.remember.Reads as remember-reads
-use Rattle.evaluate.proofs.evaluate.Reads as evaluate-reads
-use Rattle.values.proofs.word.Reads as word-reads
 
 -- src/lib.rt:132:9
 evaluate-requires : tie.Need-evaluate-requires

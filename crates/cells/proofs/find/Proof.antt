@@ -1,7 +1,7 @@
 use Rattle.cells.specs.Laws.{from-none, from-end, found-none, found-here, found-later}
 use mathlib.Core.Path.{sym, _∙_}
 use lib.ListN.{length}
-use Prim.Native.Nat.{ℕ, _-_, _<_, _≤_}
+use Prim.Native.Nat.{_-_, _<_, _≤_}
 use mathlib.Core.Path.{_≡_, refl}
 use native.Mathlib.Omega.{arith}
 use borrow.Author.Needs.{needs}
@@ -9,9 +9,6 @@ use Rattle.gil.specs.Machine.{cellAt}
 use Rattle.cells.specs.Held.{heldIn, fromIn, foundIn}
 use Rattle.cells.proofs.find.Statement.{statement}
 use Rattle.cells.proofs.find.Tie as tie
-use Rattle.cells.proofs.find.Reads as reads
-use Rattle.cells.proofs.find.Lts as lts
-use Rattle.cells.proofs.is_at.Reads as is-at-reads
 
 abbrev Inv-loop : tie.InvT-loop
 Inv-loop held l q cells i₀ i = foundIn (cellAt (l .0) q (heldIn held cells)) ≡ foundIn (cellAt (l .0) q (fromIn i held cells))

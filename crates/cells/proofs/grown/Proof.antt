@@ -6,9 +6,6 @@ use Rattle.cells.specs.Putting.{grown-holds, grown-free}
 use borrow.Author.Needs.{needs}
 use Rattle.cells.proofs.grown.Statement.{statement}
 use Rattle.cells.proofs.grown.Tie as tie
-use Rattle.cells.proofs.grown.Reads as reads
-use Rattle.cells.proofs.grown.Lts as lts
-use Rattle.cells.proofs.place_of.Reads as place-of-reads
 
 -- src/lib.rt:98:11
 place-of-requires : tie.Need-place-of-requires

@@ -1,15 +1,13 @@
 use lib.ListN.{length-set}
 use Rattle.cells.specs.Laws.{carried-up, carried-all}
-use Prim.Native.Nat.{ℕ, _+_, _-_, _<_, _≤_}
-use mathlib.Core.Path.{_≡_, refl, sym, ap, _∙_}
+use Prim.Native.Nat.{_-_}
+use mathlib.Core.Path.{_≡_, refl, sym, _∙_}
 use native.Mathlib.Omega.{arith}
 use borrow.Author.Needs.{needs}
 use lib.ListN.{length}
 use Rattle.cells.specs.Held.{insertIn}
 use Rattle.cells.proofs.insert.Statement.{statement}
 use Rattle.cells.proofs.insert.Tie as tie
-use Rattle.cells.proofs.insert.Reads as reads
-use Rattle.cells.proofs.insert.Lts as lts
 
 abbrev Inv-loop : tie.InvT-loop
 Inv-loop held at out₀ carried₀ i₀ out carried i = (insertIn held at carried₀ out₀ ≡ insertIn held i carried out) × (length out ≡ 32)

@@ -2,8 +2,6 @@ use borrow.Author.Tests.{eq-eqb, ne-eqb}
 use Rattle.gil.specs.Machine.{isAt}
 use Rattle.cells.proofs.is_at.Statement.{statement}
 use Rattle.cells.proofs.is_at.Tie as tie
-use Rattle.cells.proofs.is_at.Reads as reads
-use Rattle.cells.proofs.is_at.Lts as lts
 
 -- src/lib.rt:34:9
 returns : tie.Need-returns

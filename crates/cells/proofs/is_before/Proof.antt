@@ -2,8 +2,6 @@ use borrow.Author.Tests.{eq-eqb, ne-eqb, lt-ltb, le-ltb}
 use Rattle.gil.specs.Machine.{isBefore}
 use Rattle.cells.proofs.is_before.Statement.{statement}
 use Rattle.cells.proofs.is_before.Tie as tie
-use Rattle.cells.proofs.is_before.Reads as reads
-use Rattle.cells.proofs.is_before.Lts as lts
 
 -- src/lib.rt:43:9
 returns : tie.Need-returns

@@ -1,7 +1,7 @@
 use borrow.Author.Tests.{eq-eqb, ne-eqb}
 use Rattle.cells.specs.Laws.{from-none, from-end, without-none, taken-out, left-in}
-use Prim.Native.Nat.{ℕ, _+_, _-_, _<_, _≤_}
-use mathlib.Core.Path.{_≡_, refl, sym, ap, _∙_}
+use Prim.Native.Nat.{_+_, _-_, _<_, _≤_}
+use mathlib.Core.Path.{_≡_, ap}
 use native.Mathlib.Omega.{arith}
 use borrow.Author.Needs.{needs}
 use lib.ListN.{length}
@@ -9,8 +9,6 @@ use Rattle.gil.specs.Machine.{withoutCells}
 use Rattle.cells.specs.Held.{heldIn, fromIn}
 use Rattle.cells.proofs.kept.Statement.{statement}
 use Rattle.cells.proofs.kept.Tie as tie
-use Rattle.cells.proofs.kept.Reads as reads
-use Rattle.cells.proofs.kept.Lts as lts
 
 abbrev Inv-loop : tie.InvT-loop
 Inv-loop held l cells n₀ i₀ n i = (n + length (withoutCells (l .0) (fromIn i held cells)) ≡ length (withoutCells (l .0) (heldIn held cells))) × (n ≤ i)

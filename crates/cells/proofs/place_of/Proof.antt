@@ -1,16 +1,12 @@
 use Rattle.cells.specs.Laws.{from-none, from-end, place-none, placed-here, placed-before, placed-later}
-use Prim.Native.Nat.{ℕ, _+_, _-_, _<_, _≤_}
-use mathlib.Core.Path.{_≡_, refl, sym, ap, _∙_}
+use Prim.Native.Nat.{_-_, _<_, _≤_}
+use mathlib.Core.Path.{_≡_, refl, sym, _∙_}
 use native.Mathlib.Omega.{arith}
 use borrow.Author.Needs.{needs}
 use lib.ListN.{length}
 use Rattle.cells.specs.Held.{heldIn, fromIn, placeFrom}
 use Rattle.cells.proofs.place_of.Statement.{statement}
 use Rattle.cells.proofs.place_of.Tie as tie
-use Rattle.cells.proofs.place_of.Reads as reads
-use Rattle.cells.proofs.place_of.Lts as lts
-use Rattle.cells.proofs.is_at.Reads as is-at-reads
-use Rattle.cells.proofs.is_before.Reads as is-before-reads
 
 abbrev Inv-loop : tie.InvT-loop
 Inv-loop held l q cells i₀ i = placeFrom (l .0) q 0 (heldIn held cells) ≡ placeFrom (l .0) q i (fromIn i held cells)

@@ -9,11 +9,6 @@ use Rattle.cells.specs.Putting.{put-holds, put-free}
 use borrow.Author.Needs.{needs}
 use Rattle.cells.proofs.put.Statement.{statement}
 use Rattle.cells.proofs.put.Tie as tie
-use Rattle.cells.proofs.put.Reads as reads
-use Rattle.cells.proofs.put.Lts as lts
-use Rattle.cells.proofs.insert.Reads as insert-reads
-use Rattle.cells.proofs.place_of.Reads as place-of-reads
-use Rattle.cells.proofs.replace.Reads as replace-reads
 
 -- src/lib.rt:141:11
 place-of-requires : tie.Need-place-of-requires

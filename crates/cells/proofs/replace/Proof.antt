@@ -5,8 +5,6 @@ use lib.Seq.{set-out}
 use borrow.Author.Needs.{needs}
 use Rattle.cells.proofs.replace.Statement.{statement}
 use Rattle.cells.proofs.replace.Tie as tie
-use Rattle.cells.proofs.replace.Reads as reads
-use Rattle.cells.proofs.replace.Lts as lts
 
 -- src/lib.rt:109:9
 mul-out : tie.Need-mul-out

@@ -3,7 +3,7 @@ use borrow.Author.Tests.{eq-eqb, ne-eqb}
 use lib.ListN.{length-set}
 use Rattle.gil.specs.Machine as Machine
 use Rattle.cells.specs.Laws.{from-none, from-end, without-none, taken-out, left-in, kept-more, kept-all}
-use Prim.Native.Nat.{ℕ, _+_, _-_, _<_, _≤_}
+use Prim.Native.Nat.{ℕ, _-_, _<_, _≤_}
 use mathlib.Core.Path.{_≡_, refl, sym, ap, _∙_}
 use native.Mathlib.Omega.{arith}
 use borrow.Author.Needs.{needs}
@@ -14,8 +14,6 @@ use Rattle.gil.specs.Machine.{withoutCells}
 use Rattle.cells.specs.Held.{cellOf, heldIn, fromIn}
 use Rattle.cells.proofs.take_out.Statement.{statement}
 use Rattle.cells.proofs.take_out.Tie as tie
-use Rattle.cells.proofs.take_out.Reads as reads
-use Rattle.cells.proofs.take_out.Lts as lts
 
 abbrev Inv-loop : tie.InvT-loop
 Inv-loop held l cells out₀ n₀ i₀ out n i = (map cellOf (take n out) ++ withoutCells (l .0) (fromIn i held cells) ≡ withoutCells (l .0) (heldIn held cells)) × (n ≤ i) × (length out ≡ 32) × (i ≤ 32)

@@ -5,12 +5,6 @@ use Rattle.commands.specs.Stepped.{acted, actIn}
 use borrow.Author.Needs.{needs}
 use Rattle.commands.proofs.act.Statement.{statement}
 use Rattle.commands.proofs.act.Tie as tie
-use Rattle.commands.proofs.act.Reads as reads
-use Rattle.commands.proofs.act.Lts as lts
-use Rattle.commands.proofs.assign.Reads as assign-reads
-use Rattle.commands.proofs.enter.Reads as enter-reads
-use Rattle.commands.proofs.jump.Reads as jump-reads
-use Rattle.commands.proofs.leave.Reads as leave-reads
 
 -- src/lib.rt:287:14
 assign-requires : tie.Need-assign-requires

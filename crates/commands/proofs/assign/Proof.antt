@@ -2,10 +2,6 @@ use Rattle.commands.specs.Stepped.{assignIn}
 use borrow.Author.Needs.{needs}
 use Rattle.commands.proofs.assign.Statement.{statement}
 use Rattle.commands.proofs.assign.Tie as tie
-use Rattle.commands.proofs.assign.Reads as reads
-use Rattle.commands.proofs.assign.Lts as lts
-use Rattle.commands.proofs.onward.Reads as onward-reads
-use Rattle.commands.proofs.put.Reads as put-reads
 
 -- src/lib.rt:148:31
 cast-put : tie.Need-cast-put

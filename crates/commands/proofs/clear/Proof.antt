@@ -1,5 +1,5 @@
 use Prim.Native.Nat.{ℕ, _+_, _-_, _≤_}
-use mathlib.Core.Path.{_≡_, refl, sym, _∙_, ap}
+use mathlib.Core.Path.{_≡_, sym, _∙_, ap}
 use mathlib.Core.List.{List}
 use native.Mathlib.Omega.{arith}
 use borrow.Author.Needs.{needs}
@@ -7,9 +7,6 @@ use Rattle.commands.specs.Stepped.{zerosIn}
 use Rattle.commands.specs.Stores.{zeros-none, zeros-more, zeros-end}
 use Rattle.commands.proofs.clear.Statement.{statement}
 use Rattle.commands.proofs.clear.Tie as tie
-use Rattle.commands.proofs.clear.Reads as reads
-use Rattle.commands.proofs.clear.Lts as lts
-use Rattle.commands.proofs.put.Reads as put-reads
 
 abbrev Inv-loop : tie.InvT-loop
 Inv-loop store₀ base i₀ store i = (zerosIn 16 base store₀ ≡ zerosIn (16 - i) (base + i) store) × (i ≤ 16)

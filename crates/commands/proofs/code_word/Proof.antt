@@ -3,8 +3,6 @@ use Rattle.commands.specs.Stepped.{codeWord}
 use borrow.Author.Needs.{needs}
 use Rattle.commands.proofs.code_word.Statement.{statement}
 use Rattle.commands.proofs.code_word.Tie as tie
-use Rattle.commands.proofs.code_word.Reads as reads
-use Rattle.commands.proofs.code_word.Lts as lts
 
 -- src/lib.rt:89:26
 mul-result : tie.Need-mul-result

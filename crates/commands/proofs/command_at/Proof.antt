@@ -1,12 +1,8 @@
-use mathlib.Core.Path.{_∙_}
 use borrow.Author.Tests.{lt-ltb, le-ltb}
 use Rattle.commands.specs.Stepped.{commandIn}
 use borrow.Author.Needs.{needs}
 use Rattle.commands.proofs.command_at.Statement.{statement}
 use Rattle.commands.proofs.command_at.Tie as tie
-use Rattle.commands.proofs.command_at.Reads as reads
-use Rattle.commands.proofs.command_at.Lts as lts
-use Rattle.commands.proofs.vanish.Reads as vanish-reads
 
 -- src/lib.rt:107:13
 sub-if1 : tie.Need-sub-if1

@@ -4,11 +4,6 @@ use Rattle.commands.specs.Stores.{entered, frame-chain}
 use borrow.Author.Needs.{needs}
 use Rattle.commands.proofs.enter.Statement.{statement}
 use Rattle.commands.proofs.enter.Tie as tie
-use Rattle.commands.proofs.enter.Reads as reads
-use Rattle.commands.proofs.enter.Lts as lts
-use Rattle.commands.proofs.clear.Reads as clear-reads
-use Rattle.commands.proofs.moved.Reads as moved-reads
-use Rattle.commands.proofs.put.Reads as put-reads
 
 -- src/lib.rt:185:9
 returns : tie.Need-returns

@@ -3,11 +3,6 @@ use Rattle.commands.specs.Stepped.{fetchIn}
 use borrow.Author.Needs.{needs}
 use Rattle.commands.proofs.fetch.Statement.{statement}
 use Rattle.commands.proofs.fetch.Tie as tie
-use Rattle.commands.proofs.fetch.Reads as reads
-use Rattle.commands.proofs.fetch.Lts as lts
-use Rattle.commands.proofs.code_word.Reads as code-word-reads
-use Rattle.commands.proofs.command_at.Reads as command-at-reads
-use Rattle.commands.proofs.vanish.Reads as vanish-reads
 
 -- src/lib.rt:124:26
 cast-procedure : tie.Need-cast-procedure

@@ -2,9 +2,6 @@ use Rattle.commands.specs.Stepped.{gotoIn}
 use borrow.Author.Needs.{needs}
 use Rattle.commands.proofs.goto.Statement.{statement}
 use Rattle.commands.proofs.goto.Tie as tie
-use Rattle.commands.proofs.goto.Reads as reads
-use Rattle.commands.proofs.goto.Lts as lts
-use Rattle.commands.proofs.moved.Reads as moved-reads
 
 -- src/lib.rt:68:5
 moved-requires : tie.Need-moved-requires

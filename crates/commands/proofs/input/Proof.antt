@@ -2,10 +2,6 @@ use Rattle.terms.specs.Laws.{freshIn}
 use borrow.Author.Needs.{needs}
 use Rattle.commands.proofs.input.Statement.{statement}
 use Rattle.commands.proofs.input.Tie as tie
-use Rattle.commands.proofs.input.Reads as reads
-use Rattle.commands.proofs.input.Lts as lts
-use Rattle.terms.proofs.input.Reads as input-reads
-use Rattle.values.proofs.number.Reads as number-reads
 
 -- src/lib.rt:255:17
 cast-k : tie.Need-cast-k

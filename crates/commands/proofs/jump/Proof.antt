@@ -3,12 +3,6 @@ use Rattle.commands.specs.Stepped.{jumpIn}
 use borrow.Author.Needs.{needs}
 use Rattle.commands.proofs.jump.Statement.{statement}
 use Rattle.commands.proofs.jump.Tie as tie
-use Rattle.commands.proofs.jump.Reads as reads
-use Rattle.commands.proofs.jump.Lts as lts
-use Rattle.commands.proofs.goto.Reads as goto-reads
-use Rattle.commands.proofs.onward.Reads as onward-reads
-use Rattle.values.proofs.tag.Reads as tag-reads
-use Rattle.values.proofs.word.Reads as word-reads
 
 -- src/lib.rt:156:9
 tag-requires : tie.Need-tag-requires

@@ -4,11 +4,6 @@ use Rattle.commands.specs.Stores.{left}
 use borrow.Author.Needs.{needs}
 use Rattle.commands.proofs.leave.Statement.{statement}
 use Rattle.commands.proofs.leave.Tie as tie
-use Rattle.commands.proofs.leave.Reads as reads
-use Rattle.commands.proofs.leave.Lts as lts
-use Rattle.commands.proofs.moved.Reads as moved-reads
-use Rattle.commands.proofs.put.Reads as put-reads
-use Rattle.commands.proofs.word.Reads as word-reads
 
 -- src/lib.rt:201:9
 returns : tie.Need-returns

@@ -3,11 +3,6 @@ use Rattle.commands.specs.Stepped.{locateIn}
 use borrow.Author.Needs.{needs}
 use Rattle.commands.proofs.locate.Statement.{statement}
 use Rattle.commands.proofs.locate.Tie as tie
-use Rattle.commands.proofs.locate.Reads as reads
-use Rattle.commands.proofs.locate.Lts as lts
-use Rattle.commands.proofs.assign.Reads as assign-reads
-use Rattle.commands.proofs.with_location.Reads as with-location-reads
-use Rattle.values.proofs.located.Reads as located-reads
 
 -- src/lib.rt:244:9
 returns : tie.Need-returns

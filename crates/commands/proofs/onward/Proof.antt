@@ -2,10 +2,6 @@ use Rattle.commands.specs.Stepped.{onwardIn}
 use borrow.Author.Needs.{needs}
 use Rattle.commands.proofs.onward.Statement.{statement}
 use Rattle.commands.proofs.onward.Tie as tie
-use Rattle.commands.proofs.onward.Reads as reads
-use Rattle.commands.proofs.onward.Lts as lts
-use Rattle.commands.proofs.goto.Reads as goto-reads
-use Rattle.std.proofs.num.wrapping_add_u32.Reads as wrapping-add-u32-reads
 
 -- src/lib.rt:74:13
 wrapping-add-u32-requires : tie.Need-wrapping-add-u32-requires

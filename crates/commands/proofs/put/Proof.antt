@@ -3,8 +3,6 @@ use Rattle.commands.specs.Stepped.{putIn}
 use borrow.Author.Needs.{needs}
 use Rattle.commands.proofs.put.Statement.{statement}
 use Rattle.commands.proofs.put.Tie as tie
-use Rattle.commands.proofs.put.Reads as reads
-use Rattle.commands.proofs.put.Lts as lts
 
 -- src/lib.rt:72:9
 mul-store : tie.Need-mul-store

@@ -3,11 +3,6 @@ use Rattle.commands.specs.Stepped.{receiveIn}
 use borrow.Author.Needs.{needs}
 use Rattle.commands.proofs.receive.Statement.{statement}
 use Rattle.commands.proofs.receive.Tie as tie
-use Rattle.commands.proofs.receive.Reads as reads
-use Rattle.commands.proofs.receive.Lts as lts
-use Rattle.commands.proofs.assign.Reads as assign-reads
-use Rattle.commands.proofs.input.Reads as input-reads
-use Rattle.commands.proofs.with_input.Reads as with-input-reads
 
 -- src/lib.rt:274:9
 returns : tie.Need-returns

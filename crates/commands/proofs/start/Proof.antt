@@ -2,9 +2,6 @@ use Rattle.commands.specs.Stepped.{startIn}
 use borrow.Author.Needs.{needs}
 use Rattle.commands.proofs.start.Statement.{statement}
 use Rattle.commands.proofs.start.Tie as tie
-use Rattle.commands.proofs.start.Reads as reads
-use Rattle.commands.proofs.start.Lts as lts
-use Rattle.commands.proofs.code_word.Reads as code-word-reads
 
 -- src/lib.rt:107:20
 code-word-requires : tie.Need-code-word-requires

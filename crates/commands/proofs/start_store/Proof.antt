@@ -3,8 +3,6 @@ use Rattle.commands.specs.Stepped.{startStore}
 use borrow.Author.Needs.{needs}
 use Rattle.commands.proofs.start_store.Statement.{statement}
 use Rattle.commands.proofs.start_store.Tie as tie
-use Rattle.commands.proofs.start_store.Reads as reads
-use Rattle.commands.proofs.start_store.Lts as lts
 
 -- src/lib.rt:118:5
 array-write-store : tie.Need-array-write-store

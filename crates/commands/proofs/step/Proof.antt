@@ -1,4 +1,3 @@
-use Prim.Native.Nat.{ℕ}
 use mathlib.Core.Path.{ap}
 use borrow.Author.Tests.{ne-eqb}
 use Rattle.commands.specs.Stepped.{Acted, afterActed, stepIn}
@@ -6,13 +5,6 @@ use Rattle.commands.specs.Stores.{value-errs, value-acts}
 use borrow.Author.Needs.{needs}
 use Rattle.commands.proofs.step.Statement.{statement}
 use Rattle.commands.proofs.step.Tie as tie
-use Rattle.commands.proofs.step.Reads as reads
-use Rattle.commands.proofs.step.Lts as lts
-use Rattle.commands.proofs.act.Reads as act-reads
-use Rattle.commands.proofs.locate.Reads as locate-reads
-use Rattle.commands.proofs.receive.Reads as receive-reads
-use Rattle.evaluate.proofs.evaluate.Reads as evaluate-reads
-use Rattle.values.proofs.word.Reads as word-reads
 
 -- src/lib.rt:310:14
 locate-requires : tie.Need-locate-requires

@@ -3,9 +3,6 @@ use Rattle.commands.specs.Stepped.{wordIn}
 use borrow.Author.Needs.{needs}
 use Rattle.commands.proofs.word.Statement.{statement}
 use Rattle.commands.proofs.word.Tie as tie
-use Rattle.commands.proofs.word.Reads as reads
-use Rattle.commands.proofs.word.Lts as lts
-use Rattle.values.proofs.word.Reads as word-reads
 
 -- src/lib.rt:80:22
 mul-word : tie.Need-mul-word

@@ -3,11 +3,6 @@ use Rattle.evaluate.specs.Evaluated.{leafIn, leafOf}
 use borrow.Author.Needs.{needs}
 use Rattle.evaluate.proofs.leaf.Statement.{statement}
 use Rattle.evaluate.proofs.leaf.Tie as tie
-use Rattle.evaluate.proofs.leaf.Reads as reads
-use Rattle.evaluate.proofs.leaf.Lts as lts
-use Rattle.evaluate.proofs.variable.Reads as variable-reads
-use Rattle.values.proofs.number.Reads as number-reads
-use Rattle.values.proofs.truth_of.Reads as truth-of-reads
 
 -- src/lib.rt:40:13
 sub-if1 : tie.Need-sub-if1

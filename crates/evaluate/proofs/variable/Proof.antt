@@ -3,8 +3,6 @@ use Rattle.evaluate.specs.Evaluated.{variableIn}
 use borrow.Author.Needs.{needs}
 use Rattle.evaluate.proofs.variable.Statement.{statement}
 use Rattle.evaluate.proofs.variable.Tie as tie
-use Rattle.evaluate.proofs.variable.Reads as reads
-use Rattle.evaluate.proofs.variable.Lts as lts
 
 -- src/lib.rt:25:14
 mul-at : tie.Need-mul-at

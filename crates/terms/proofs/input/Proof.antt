@@ -4,10 +4,6 @@ use Rattle.terms.specs.Made.{Did, did, inputIn, madeIn}
 use borrow.Author.Needs.{needs}
 use Rattle.terms.proofs.input.Statement.{statement}
 use Rattle.terms.proofs.input.Tie as tie
-use Rattle.terms.proofs.input.Reads as reads
-use Rattle.terms.proofs.input.Lts as lts
-use Rattle.terms.proofs.make.Reads as make-reads
-use Rattle.values.proofs.number.Reads as number-reads
 
 -- src/lib.rt:57:34
 number-requires : tie.Need-number-requires

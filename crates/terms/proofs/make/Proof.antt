@@ -3,10 +3,6 @@ use Rattle.terms.specs.Made.{madeIn, poolWith}
 use borrow.Author.Needs.{needs}
 use Rattle.terms.proofs.make.Statement.{statement}
 use Rattle.terms.proofs.make.Tie as tie
-use Rattle.terms.proofs.make.Reads as reads
-use Rattle.terms.proofs.make.Lts as lts
-use Rattle.std.proofs.num.wrapping_add_u32.Reads as wrapping-add-u32-reads
-use Rattle.terms.proofs.put_node.Reads as put-node-reads
 
 -- src/lib.rt:45:14
 mul-at : tie.Need-mul-at

@@ -5,12 +5,6 @@ use Rattle.terms.specs.Made.{Did, did, negateIn, madeIn}
 use borrow.Author.Needs.{needs}
 use Rattle.terms.proofs.negate.Statement.{statement}
 use Rattle.terms.proofs.negate.Tie as tie
-use Rattle.terms.proofs.negate.Reads as reads
-use Rattle.terms.proofs.negate.Lts as lts
-use Rattle.terms.proofs.make.Reads as make-reads
-use Rattle.values.proofs.sort.Reads as sort-reads
-use Rattle.values.proofs.truth.Reads as truth-reads
-use Rattle.values.proofs.word.Reads as word-reads
 
 -- src/lib.rt:95:9
 sort-requires : tie.Need-sort-requires

@@ -3,13 +3,6 @@ use Rattle.terms.specs.Made.{operateIn}
 use borrow.Author.Needs.{needs}
 use Rattle.terms.proofs.operate.Statement.{statement}
 use Rattle.terms.proofs.operate.Tie as tie
-use Rattle.terms.proofs.operate.Reads as reads
-use Rattle.terms.proofs.operate.Lts as lts
-use Rattle.terms.proofs.term.Reads as term-reads
-use Rattle.values.proofs.fit.Reads as fit-reads
-use Rattle.values.proofs.sort.Reads as sort-reads
-use Rattle.values.proofs.word.Reads as word-reads
-use Rattle.values.proofs.work.Reads as work-reads
 
 -- src/lib.rt:76:33
 sort-requires : tie.Need-sort-requires

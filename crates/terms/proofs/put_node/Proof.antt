@@ -2,11 +2,6 @@ use Rattle.terms.specs.Stores.{five-words}
 use borrow.Author.Needs.{needs}
 use Rattle.terms.proofs.put_node.Statement.{statement}
 use Rattle.terms.proofs.put_node.Tie as tie
-use Rattle.terms.proofs.put_node.Reads as reads
-use Rattle.terms.proofs.put_node.Lts as lts
-use Rattle.terms.proofs.put_word.Reads as put-word-reads
-use Rattle.values.proofs.tag.Reads as tag-reads
-use Rattle.values.proofs.word.Reads as word-reads
 
 -- src/lib.rt:33:5
 put-word-requires : tie.Need-put-word-requires

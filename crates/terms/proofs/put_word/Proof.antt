@@ -5,8 +5,6 @@ use Rattle.gil.specs.Layout.{wordBytes}
 use borrow.Author.Needs.{needs}
 use Rattle.terms.proofs.put_word.Statement.{statement}
 use Rattle.terms.proofs.put_word.Tie as tie
-use Rattle.terms.proofs.put_word.Reads as reads
-use Rattle.terms.proofs.put_word.Lts as lts
 
 -- src/lib.rt:23:13
 cast-b : tie.Need-cast-b

@@ -1,15 +1,11 @@
-use Prim.Native.Nat.{ℕ, _+_, _%_}
-use mathlib.Core.Path.{_≡_, ap, _∙_}
+use Prim.Native.Nat.{_+_, _%_}
+use mathlib.Core.Path.{_≡_, ap}
 use native.Mathlib.Omega.{arith}
 use borrow.Author.Tests.{lt-ltb, le-ltb}
 use Rattle.terms.specs.Made.{Did, did, termIn, madeIn}
 use borrow.Author.Needs.{needs}
 use Rattle.terms.proofs.term.Statement.{statement}
 use Rattle.terms.proofs.term.Tie as tie
-use Rattle.terms.proofs.term.Reads as reads
-use Rattle.terms.proofs.term.Lts as lts
-use Rattle.std.proofs.num.wrapping_sub_u32.Reads as wrapping-sub-u32-reads
-use Rattle.terms.proofs.make.Reads as make-reads
 
 -- src/lib.rt:65:31
 wrapping-sub-u32-requires : tie.Need-wrapping-sub-u32-requires

@@ -3,8 +3,6 @@ use Rattle.values.specs.Packed.{bothWord}
 use borrow.Author.Needs.{needs}
 use Rattle.values.proofs.both.Statement.{statement}
 use Rattle.values.proofs.both.Tie as tie
-use Rattle.values.proofs.both.Reads as reads
-use Rattle.values.proofs.both.Lts as lts
 
 -- src/lib.rt:106:32
 add-result : tie.Need-add-result

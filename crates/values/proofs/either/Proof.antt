@@ -3,8 +3,6 @@ use Rattle.values.specs.Packed.{eitherWord}
 use borrow.Author.Needs.{needs}
 use Rattle.values.proofs.either.Statement.{statement}
 use Rattle.values.proofs.either.Tie as tie
-use Rattle.values.proofs.either.Reads as reads
-use Rattle.values.proofs.either.Lts as lts
 
 -- src/lib.rt:112:17
 add-result : tie.Need-add-result

@@ -3,9 +3,6 @@ use Rattle.values.specs.Packed.{fitWord}
 use borrow.Author.Needs.{needs}
 use Rattle.values.proofs.fit.Statement.{statement}
 use Rattle.values.proofs.fit.Tie as tie
-use Rattle.values.proofs.fit.Reads as reads
-use Rattle.values.proofs.fit.Lts as lts
-use Rattle.values.proofs.needed.Reads as needed-reads
 
 -- src/lib.rt:75:13
 returns : tie.Need-returns

@@ -2,8 +2,6 @@ use borrow.Author.Tests.{lt-ltb, le-ltb}
 use Rattle.values.specs.Packed.{neededWord}
 use Rattle.values.proofs.needed.Statement.{statement}
 use Rattle.values.proofs.needed.Tie as tie
-use Rattle.values.proofs.needed.Reads as reads
-use Rattle.values.proofs.needed.Lts as lts
 
 -- src/lib.rt:63:1
 returns : tie.Need-returns

@@ -3,9 +3,6 @@ use Rattle.values.specs.Packed.{sortWord}
 use borrow.Author.Needs.{needs}
 use Rattle.values.proofs.sort.Statement.{statement}
 use Rattle.values.proofs.sort.Tie as tie
-use Rattle.values.proofs.sort.Reads as reads
-use Rattle.values.proofs.sort.Lts as lts
-use Rattle.values.proofs.tag.Reads as tag-reads
 
 -- src/lib.rt:58:9
 tag-requires : tie.Need-tag-requires

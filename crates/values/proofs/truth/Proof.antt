@@ -2,8 +2,6 @@ use Rattle.values.specs.Packed.{truthWord}
 use borrow.Author.Needs.{needs}
 use Rattle.values.proofs.truth.Statement.{statement}
 use Rattle.values.proofs.truth.Tie as tie
-use Rattle.values.proofs.truth.Reads as reads
-use Rattle.values.proofs.truth.Lts as lts
 
 -- src/lib.rt:45:12
 add-result : tie.Need-add-result

@@ -6,14 +6,6 @@ use Rattle.values.specs.Packed.{workWord}
 use borrow.Author.Needs.{needs}
 use Rattle.values.proofs.work.Statement.{statement}
 use Rattle.values.proofs.work.Tie as tie
-use Rattle.values.proofs.work.Reads as reads
-use Rattle.values.proofs.work.Lts as lts
-use Rattle.std.proofs.num.wrapping_add_u32.Reads as wrapping-add-u32-reads
-use Rattle.std.proofs.num.wrapping_sub_u32.Reads as wrapping-sub-u32-reads
-use Rattle.values.proofs.both.Reads as both-reads
-use Rattle.values.proofs.either.Reads as either-reads
-use Rattle.values.proofs.number.Reads as number-reads
-use Rattle.values.proofs.truth.Reads as truth-reads
 
 -- src/lib.rt:94:21
 wrapping-add-u32-requires : tie.Need-wrapping-add-u32-requires
