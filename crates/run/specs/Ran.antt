@@ -56,6 +56,6 @@ answers code inputs budget answer f {z} {left} {store₀} {store} {pool} {count}
           ew
           ∙ ap₂ (λ (l : List ℕ) (k : Head). withRow (l ++ drop 1024 answer) k (replicate 16 0) store (f .control .frame) (f .cells)) zs eh
           ∙ ap (λ (x : Stopped).
-            withRow (replicate 1024 0 ++ drop 1024 answer) (headIn code (endedIn (x .cut) (x .next) (x .steps)) (x .control) 0 (f .held))
-            (replicate 16 0) (x .store) (x .control .frame) (f .cells)) r;
+          withRow (replicate 1024 0 ++ drop 1024 answer) (headIn code (endedIn (x .cut) (x .next) (x .steps)) (x .control) 0 (f .held))
+          (replicate 16 0) (x .store) (x .control .frame) (f .cells)) r;
     }

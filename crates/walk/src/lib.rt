@@ -151,7 +151,7 @@ fn walk(
     }
     let deeper = from.branches + 1;
     let holds = with_condition(conditions, from.branches, condition(t, 1));
-    let r = walk(
+    let first = walk(
         code,
         budgets,
         waiting(f, a, deeper, holds, store),
@@ -160,8 +160,8 @@ fn walk(
         pool,
         count,
     );
-    if r != 0 {
-        return r;
+    if first != 0 {
+        return first;
     }
     let fails = with_condition(conditions, from.branches, condition(t, 0));
     walk(
