@@ -1,19 +1,20 @@
 -- What reading a form does to the tables of names and to the words of the program. Assumes nothing.
-use Prim.Native.Nat.{ℕ, zero, suc, _+_, _-_, _≤_}
+use Prim.Native.Nat.{ℕ, zero, suc, _+_, _*_, _-_, _≤_, _<_}
 use mathlib.Core.Path.{_≡_, refl, sym, ap, _∙_, subst}
 use mathlib.Core.Bool.{Bool, true, false}
 use mathlib.Core.List.{List, [], _∷_, _++_, append-assoc}
 use native.Mathlib.Omega.{arith}
+use native.Mathlib.Nat.{add-zero}
 use lib.ListN.{length, length-append}
 use lib.Seq.{sets}
 use Rattle.gil.specs.Tree.{Op, Expr, num, bool, var, neg, bin, Cmd, assign, ifgoto, call, lookup, mutate, dispose, uSym, iSym, return, fail, vanish, Name}
-use Rattle.gil.specs.Names.{exprVars, cmdVars, cmdProperties, cmdCalls, isEnd, renameExpr, withName, withNames}
+use Rattle.gil.specs.Names.{exprVars, cmdVars, cmdProperties, cmdCalls, isEnd, renameExpr, renameCmd, withName, withNames}
 use Rattle.code.specs.Code as Code
-use Rattle.code.specs.Code.{exprWords}
+use Rattle.code.specs.Code.{exprWords, cmdNodes, cmdWords}
 use Rattle.gil.specs.Layout.{bit}
 use Rattle.names.specs.Lists.{withNames-append}
 use Rattle.names.specs.Tables.{Kept, Interned, Grows, grows-none, grows-one, grows-then, numberIn, number-stays}
-use Rattle.reader.specs.Stores.{putNode, putCommand, upFrom, node-long, node-sets, up-room, sets-append, node-before}
+use Rattle.reader.specs.Stores.{putNode, putCommand, upFrom, node-long, node-sets, up-room, sets-append, node-before, command-long, command-sets}
 
 -- how many words an expression takes
 unfoldable pub exprSize : Expr Name → ℕ
@@ -187,6 +188,24 @@ jumpAt (return e) = 0
 jumpAt (fail e) = 0
 jumpAt vanish = 0
 
+-- how many words a command's expressions take
+unfoldable pub cmdSize : Cmd Name → ℕ
+cmdSize (assign v e) = exprSize e
+cmdSize (ifgoto e n) = exprSize e
+cmdSize (call v f e) = exprSize e
+cmdSize (lookup v e p) = exprSize e
+cmdSize (mutate v e p d) = exprSize e + exprSize d
+cmdSize (dispose v e) = exprSize e
+cmdSize (uSym v j) = 0
+cmdSize (iSym v j) = 0
+cmdSize (return e) = exprSize e
+cmdSize (fail e) = exprSize e
+cmdSize vanish = 0
+
+-- a command with its names numbered by tables that took in the names `vs`, `qs` and `fs`; callees are linked later
+unfoldable pub numbered : List Name → List Name → List Name → Cmd Name → Cmd ℕ
+numbered vs qs fs c = renameCmd (numberIn 16 vs) (numberIn 32 qs) (numberIn 16 fs) c
+
 -- a command that sets the variable `v`, but for that: the variables read (table `t`), its property (`p`) and its callee (`k`)
 pub record Sets (s : List ℕ) (v : Name) (t t′ p p′ k k′ code code′ : List ℕ) (out out′ kind place other second : ℕ) (c : Cmd Name) : Type 0 where
   pub reads : List Name
@@ -196,6 +215,9 @@ pub record Sets (s : List ℕ) (v : Name) (t t′ p p′ k k′ code code′ : L
   pub calls : Grows s 16 k k′ (cmdCalls c)
   pub on : jumpAt c ≡ 0
   pub stays : isEnd c ≡ false
+  pub long : length code′ ≡ length code
+  pub size : out + cmdSize c ≤ 18994 → out′ ≡ out + cmdSize c
+  pub words : (vs vm qs qm fs fm : List Name) → Kept s 16 t vs → Kept s 32 p qs → Kept s 16 k fs → length code ≡ 18994 → out + cmdSize c ≤ 18994 → (code′ ≡ sets code out (cmdNodes (numbered (withNames vs (reads ++ vm)) (withNames qs (cmdProperties c ++ qm)) (withNames fs (cmdCalls c ++ fm)) c))) × (kind ∷ numberIn 16 (withNames vs (reads ++ vm)) v ∷ place ∷ other ∷ second ∷ [] ≡ cmdWords out (numbered (withNames vs (reads ++ vm)) (withNames qs (cmdProperties c ++ qm)) (withNames fs (cmdCalls c ++ fm)) c))
 
 -- a command, number `n` of all
 pub record Does (s t t′ p p′ k k′ code code′ : List ℕ) (n out out′ jump : ℕ) (ends : Bool) (c : Cmd Name) : Type 0 where
@@ -204,34 +226,146 @@ pub record Does (s t t′ p p′ k k′ code code′ : List ℕ) (n out out′ j
   pub calls : Grows s 16 k k′ (cmdCalls c)
   pub jumps : jump ≡ jumpAt c
   pub ending : ends ≡ isEnd c
+  pub long : length code′ ≡ length code
+  pub size : out + cmdSize c ≤ 18994 → out′ ≡ out + cmdSize c
+  pub words : (vs vm qs qm fs fm : List Name) → Kept s 16 t vs → Kept s 32 p qs → Kept s 16 k fs → length code ≡ 18994 → out + cmdSize c ≤ 18994 → n < 512 → code′ ≡ sets (sets code out (cmdNodes (numbered (withNames vs (cmdVars c ++ vm)) (withNames qs (cmdProperties c ++ qm)) (withNames fs (cmdCalls c ++ fm)) c))) (50 + 5 * n) (cmdWords out (numbered (withNames vs (cmdVars c ++ vm)) (withNames qs (cmdProperties c ++ qm)) (withNames fs (cmdCalls c ++ fm)) c))
 
 pub sets-plain : {s t t′ p k code code′ : List ℕ} {out out′ place : ℕ} {v : Name} {e : Expr Name} → Wrote s t t′ code code′ out out′ e → place ≡ out → Sets s v t t′ p p k k code code′ out out′ 1 place 0 0 (assign v e)
-unfolding cmdVars cmdProperties cmdCalls jumpAt isEnd
-sets-plain {e = e} w z = record { reads = exprVars e; variables = refl; vars = w .vars; props = grows-none; calls = grows-none; on = refl; stays = refl }
-
-pub sets-call : {s t t′ p k k′ code code′ : List ℕ} {out out′ place other : ℕ} {v : Name} {e : Expr Name} {f : Name} → Interned s 16 k k′ f other → Wrote s t t′ code code′ out out′ e → place ≡ out → Sets s v t t′ p p k k′ code code′ out out′ 3 place other 0 (call v f e)
-unfolding cmdVars cmdProperties cmdCalls jumpAt isEnd
-sets-call {e = e} i w z = record { reads = exprVars e; variables = refl; vars = w .vars; props = grows-none; calls = grows-one i; on = refl; stays = refl }
-
-pub sets-lookup : {s t t′ p p′ k code code′ : List ℕ} {out out′ place other : ℕ} {v : Name} {e : Expr Name} {q : Name} → Interned s 32 p p′ q other → Wrote s t t′ code code′ out out′ e → place ≡ out → Sets s v t t′ p p′ k k code code′ out out′ 4 place other 0 (lookup v e q)
-unfolding cmdVars cmdProperties cmdCalls jumpAt isEnd
-sets-lookup {e = e} i w z = record { reads = exprVars e; variables = refl; vars = w .vars; props = grows-one i; calls = grows-none; on = refl; stays = refl }
-
-pub sets-mutate : {s t t′ p p′ k code code′ : List ℕ} {out out′ place second other : ℕ} {v : Name} {t₁ code₁ : List ℕ} {out₁ : ℕ} {e d : Expr Name} {q : Name} → Interned s 32 p p′ q other → Wrote s t t₁ code code₁ out out₁ e → Wrote s t₁ t′ code₁ code′ out₁ out′ d → place ≡ out → second ≡ out₁ → Sets s v t t′ p p′ k k code code′ out out′ 5 place other second (mutate v e q d)
-unfolding cmdVars cmdProperties cmdCalls jumpAt isEnd
-sets-mutate {e = e} {d = d} i w x z y = record { reads = exprVars e ++ exprVars d; variables = refl; vars = grows-then (w .vars) (x .vars); props = grows-one i; calls = grows-none; on = refl; stays = refl }
+unfolding nodesOf cmdVars cmdProperties cmdCalls jumpAt isEnd cmdSize numbered renameCmd cmdNodes cmdWords
+sets-plain {out = out} {v = v} {e = e} w z =
+    record {
+      reads = exprVars e;
+      variables = refl;
+      vars = w .vars;
+      props = grows-none;
+      calls = grows-none;
+      on = refl;
+      stays = refl;
+      long = w .long;
+      size = w .size;
+      words = λ vs vm qs qm fs fm kv kq kf l h. (w .words vs vm kv l h, ap (λ (x : ℕ). 1 ∷ numberIn 16 (withNames vs (exprVars e ++ vm)) v ∷ x ∷ 0 ∷ 0 ∷ []) z);
+    }
 
 pub sets-dispose : {s t t′ p k code code′ : List ℕ} {out out′ place : ℕ} {v : Name} {e : Expr Name} → Wrote s t t′ code code′ out out′ e → place ≡ out → Sets s v t t′ p p k k code code′ out out′ 6 place 0 0 (dispose v e)
-unfolding cmdVars cmdProperties cmdCalls jumpAt isEnd
-sets-dispose {e = e} w z = record { reads = exprVars e; variables = refl; vars = w .vars; props = grows-none; calls = grows-none; on = refl; stays = refl }
+unfolding nodesOf cmdVars cmdProperties cmdCalls jumpAt isEnd cmdSize numbered renameCmd cmdNodes cmdWords
+sets-dispose {out = out} {v = v} {e = e} w z =
+    record {
+      reads = exprVars e;
+      variables = refl;
+      vars = w .vars;
+      props = grows-none;
+      calls = grows-none;
+      on = refl;
+      stays = refl;
+      long = w .long;
+      size = w .size;
+      words = λ vs vm qs qm fs fm kv kq kf l h. (w .words vs vm kv l h, ap (λ (x : ℕ). 6 ∷ numberIn 16 (withNames vs (exprVars e ++ vm)) v ∷ x ∷ 0 ∷ 0 ∷ []) z);
+    }
+
+pub sets-call : {s t t′ p k k′ code code′ : List ℕ} {out out′ place other : ℕ} {v : Name} {e : Expr Name} {f : Name} → Interned s 16 k k′ f other → Wrote s t t′ code code′ out out′ e → place ≡ out → Sets s v t t′ p p k k′ code code′ out out′ 3 place other 0 (call v f e)
+unfolding nodesOf cmdVars cmdProperties cmdCalls jumpAt isEnd cmdSize numbered renameCmd cmdNodes cmdWords
+sets-call {out = out} {place = place} {other = other} {v = v} {e = e} {f = f} i w z =
+    record {
+      reads = exprVars e;
+      variables = refl;
+      vars = w .vars;
+      props = grows-none;
+      calls = grows-one i;
+      on = refl;
+      stays = refl;
+      long = w .long;
+      size = w .size;
+      words = λ vs vm qs qm fs fm kv kq kf l h. (w .words vs vm kv l h, ap (λ (x : ℕ). 3 ∷ numberIn 16 (withNames vs (exprVars e ++ vm)) v ∷ x ∷ other ∷ 0 ∷ []) z ∙ ap (λ (x : ℕ). 3 ∷ numberIn 16 (withNames vs (exprVars e ++ vm)) v ∷ out ∷ x ∷ 0 ∷ []) (i .number fs kf ∙ sym (number-stays 16 fs f fm)));
+    }
+
+pub sets-lookup : {s t t′ p p′ k code code′ : List ℕ} {out out′ place other : ℕ} {v : Name} {e : Expr Name} {q : Name} → Interned s 32 p p′ q other → Wrote s t t′ code code′ out out′ e → place ≡ out → Sets s v t t′ p p′ k k code code′ out out′ 4 place other 0 (lookup v e q)
+unfolding nodesOf cmdVars cmdProperties cmdCalls jumpAt isEnd cmdSize numbered renameCmd cmdNodes cmdWords
+sets-lookup {out = out} {place = place} {other = other} {v = v} {e = e} {q = q} i w z =
+    record {
+      reads = exprVars e;
+      variables = refl;
+      vars = w .vars;
+      props = grows-one i;
+      calls = grows-none;
+      on = refl;
+      stays = refl;
+      long = w .long;
+      size = w .size;
+      words = λ vs vm qs qm fs fm kv kq kf l h. (w .words vs vm kv l h, ap (λ (x : ℕ). 4 ∷ numberIn 16 (withNames vs (exprVars e ++ vm)) v ∷ x ∷ other ∷ 0 ∷ []) z ∙ ap (λ (x : ℕ). 4 ∷ numberIn 16 (withNames vs (exprVars e ++ vm)) v ∷ out ∷ x ∷ 0 ∷ []) (i .number qs kq ∙ sym (number-stays 32 qs q qm)));
+    }
 
 pub sets-u : {s t p k code : List ℕ} {out : ℕ} {v : Name} {j : ℕ} → Sets s v t t p p k k code code out out 7 0 j 0 (uSym v j)
-unfolding cmdVars cmdProperties cmdCalls jumpAt isEnd
-sets-u = record { reads = []; variables = refl; vars = grows-none; props = grows-none; calls = grows-none; on = refl; stays = refl }
+unfolding nodesOf cmdVars cmdProperties cmdCalls jumpAt isEnd cmdSize numbered renameCmd cmdNodes cmdWords
+sets-u {out = out} =
+    record {
+      reads = [];
+      variables = refl;
+      vars = grows-none;
+      props = grows-none;
+      calls = grows-none;
+      on = refl;
+      stays = refl;
+      long = refl;
+      size = λ h. sym (add-zero out);
+      words = λ vs vm qs qm fs fm kv kq kf l h. (refl, refl);
+    }
 
 pub sets-i : {s t p k code : List ℕ} {out : ℕ} {v : Name} {j : ℕ} → Sets s v t t p p k k code code out out 8 0 j 0 (iSym v j)
-unfolding cmdVars cmdProperties cmdCalls jumpAt isEnd
-sets-i = record { reads = []; variables = refl; vars = grows-none; props = grows-none; calls = grows-none; on = refl; stays = refl }
+unfolding nodesOf cmdVars cmdProperties cmdCalls jumpAt isEnd cmdSize numbered renameCmd cmdNodes cmdWords
+sets-i {out = out} =
+    record {
+      reads = [];
+      variables = refl;
+      vars = grows-none;
+      props = grows-none;
+      calls = grows-none;
+      on = refl;
+      stays = refl;
+      long = refl;
+      size = λ h. sym (add-zero out);
+      words = λ vs vm qs qm fs fm kv kq kf l h. (refl, refl);
+    }
+
+-- two expressions in a row
+module _ {s t t₁ t′ code code₁ code′ : List ℕ} {out out₁ out′ : ℕ} {e d : Expr Name} (w : Wrote s t t₁ code code₁ out out₁ e) (x : Wrote s t₁ t′ code₁ code′ out₁ out′ d) where
+  row-first : out + (exprSize e + exprSize d) ≤ 18994 → out₁ ≡ out + exprSize e
+  row-first h = w .size (omega arith)
+
+  row-size : out + (exprSize e + exprSize d) ≤ 18994 → out′ ≡ out + (exprSize e + exprSize d)
+  row-size h = let z = row-first h in x .size (omega arith) ∙ omega arith
+
+  row-words : (vs vm : List Name) → Kept s 16 t vs → length code ≡ 18994 → out + (exprSize e + exprSize d) ≤ 18994 → code′ ≡ sets code out (nodesOf (withNames vs ((exprVars e ++ exprVars d) ++ vm)) e ++ nodesOf (withNames vs ((exprVars e ++ exprVars d) ++ vm)) d)
+  row-words vs vm kv l h =
+      let z = row-first h in
+      let ns = withNames vs (exprVars e ++ (exprVars d ++ vm)) in
+      let y : out + exprSize e ≡ out + length (nodesOf ns e) = omega (arith, nodes-size ns e) in
+      x .words (withNames vs (exprVars e)) vm (w .vars .kept vs kv) (w .long ∙ l) (omega arith)
+      ∙ ap (λ (us : List Name). sets code₁ out₁ (nodesOf us d)) (sym (withNames-append vs (exprVars e) (exprVars d ++ vm)))
+      ∙ ap (λ (c : List ℕ). sets c out₁ (nodesOf ns d)) (w .words vs (exprVars d ++ vm) kv l (omega arith))
+      ∙ ap (λ (n : ℕ). sets (sets code out (nodesOf ns e)) n (nodesOf ns d)) (z ∙ y)
+      ∙ sym (sets-append code out (nodesOf ns e) (nodesOf ns d))
+      ∙ ap (λ (us : List Name). sets code out (nodesOf (withNames vs us) e ++ nodesOf (withNames vs us) d)) (sym (append-assoc (exprVars e) (exprVars d) vm))
+
+pub sets-mutate : {s t t₁ t′ p p′ k code code₁ code′ : List ℕ} {out out₁ out′ place second other : ℕ} {v : Name} {e d : Expr Name} {q : Name} → Interned s 32 p p′ q other → Wrote s t t₁ code code₁ out out₁ e → Wrote s t₁ t′ code₁ code′ out₁ out′ d → place ≡ out → second ≡ out₁ → Sets s v t t′ p p′ k k code code′ out out′ 5 place other second (mutate v e q d)
+unfolding nodesOf cmdVars cmdProperties cmdCalls jumpAt isEnd cmdSize numbered renameCmd cmdNodes cmdWords
+sets-mutate {out = out} {place = place} {second = second} {other = other} {v = v} {e = e} {d = d} {q = q} i w x z y =
+    record {
+      reads = exprVars e ++ exprVars d;
+      variables = refl;
+      vars = grows-then (w .vars) (x .vars);
+      props = grows-one i;
+      calls = grows-none;
+      on = refl;
+      stays = refl;
+      long = x .long ∙ w .long;
+      size = row-size w x;
+      words = λ vs vm qs qm fs fm kv kq kf l h. (
+        row-words w x vs vm kv l h,
+        ap (λ (a : ℕ). 5 ∷ numberIn 16 (withNames vs ((exprVars e ++ exprVars d) ++ vm)) v ∷ a ∷ other ∷ second ∷ []) z
+            ∙ ap (λ (a : ℕ). 5 ∷ numberIn 16 (withNames vs ((exprVars e ++ exprVars d) ++ vm)) v ∷ out ∷ a ∷ second ∷ []) (i .number qs kq ∙ sym (number-stays 32 qs q qm))
+            ∙ ap (λ (a : ℕ). 5 ∷ numberIn 16 (withNames vs ((exprVars e ++ exprVars d) ++ vm)) v ∷ out ∷ numberIn 32 (withNames qs (q ∷ qm)) q ∷ a ∷ []) (y ∙ row-first w x h ∙ ap (λ (a : ℕ). out + a) (sym (nodes-size (withNames vs ((exprVars e ++ exprVars d) ++ vm)) e))),
+      );
+    }
 
 -- `return` and `fail`, by the kind of their words
 pub data Ending : ℕ → (Expr Name → Cmd Name) → Type 0 where
@@ -239,18 +373,75 @@ pub data Ending : ℕ → (Expr Name → Cmd Name) → Type 0 where
   failing : Ending 10 fail
 
 pub does-setting : {s t t₁ t′ p p′ k k′ code code₁ code′ : List ℕ} {n out out′ kind place other second x : ℕ} {v : Name} {c : Cmd Name} → Interned s 16 t t₁ v x → Sets s v t₁ t′ p p′ k k′ code code₁ out out′ kind place other second c → code′ ≡ putCommand code₁ n kind x place other second → Does s t t′ p p′ k k′ code code′ n out out′ 0 false c
-does-setting {s} {t} {t′ = t′} i w e =
-    record { vars = subst (λ (ws : List Name). Grows s 16 t t′ ws) (sym (w .variables)) (grows-then (grows-one i) (w .vars)); props = w .props; calls = w .calls; jumps = sym (w .on); ending = sym (w .stays) }
+does-setting {s} {t} {t₁} {t′} {p} {k = k} {code = code} {code₁ = code₁} {code′ = code′} {n = n} {out = out} {kind = kind} {place = place} {other = other} {second = second} {x = x} {v = v} {c = c} i w e =
+    record {
+      vars = subst (λ (ws : List Name). Grows s 16 t t′ ws) (sym (w .variables)) (grows-then (grows-one i) (w .vars));
+      props = w .props;
+      calls = w .calls;
+      jumps = sym (w .on);
+      ending = sym (w .stays);
+      long = ap length e ∙ command-long code₁ n kind x place other second ∙ w .long;
+      size = w .size;
+      words = all;
+    }
+  where
+    all : (vs vm qs qm fs fm : List Name) → Kept s 16 t vs → Kept s 32 p qs → Kept s 16 k fs → length code ≡ 18994 → out + cmdSize c ≤ 18994 → n < 512 → code′ ≡ sets (sets code out (cmdNodes (numbered (withNames vs (cmdVars c ++ vm)) (withNames qs (cmdProperties c ++ qm)) (withNames fs (cmdCalls c ++ fm)) c))) (50 + 5 * n) (cmdWords out (numbered (withNames vs (cmdVars c ++ vm)) (withNames qs (cmdProperties c ++ qm)) (withNames fs (cmdCalls c ++ fm)) c))
+    all vs vm qs qm fs fm kv kq kf l h m =
+        let both = w .words (withName vs v) vm qs qm fs fm (i .kept vs kv) kq kf l h in
+        e
+        ∙ command-sets code₁ n kind x place other second (w .long ∙ l) m
+        ∙ ap (λ (a : ℕ). sets code₁ (50 + 5 * n) (kind ∷ a ∷ place ∷ other ∷ second ∷ [])) (i .number vs kv ∙ sym (number-stays 16 vs v (w .reads ++ vm)) ∙ same-names vs (w .reads ++ vm))
+        ∙ ap (sets code₁ (50 + 5 * n)) (both .1)
+        ∙ ap (λ (b : List ℕ). sets b (50 + 5 * n) (cmdWords out (numbered (withNames (withName vs v) (w .reads ++ vm)) (withNames qs (cmdProperties c ++ qm)) (withNames fs (cmdCalls c ++ fm)) c))) (both .0)
+        ∙ ap (λ (ns : List Name). sets (sets code out (cmdNodes (numbered ns (withNames qs (cmdProperties c ++ qm)) (withNames fs (cmdCalls c ++ fm)) c))) (50 + 5 * n) (cmdWords out (numbered ns (withNames qs (cmdProperties c ++ qm)) (withNames fs (cmdCalls c ++ fm)) c))) (whole-names vs vm)
+      where
+        same-names : (vs ws : List Name) → numberIn 16 (withNames vs (v ∷ ws)) v ≡ numberIn 16 (withNames (withName vs v) ws) v
+        same-names vs ws = unfold withNames in refl
+
+        taken : (vs ws : List Name) → withNames (withName vs v) ws ≡ withNames vs (v ∷ ws)
+        taken vs ws = unfold withNames in refl
+
+        whole-names : (vs vm : List Name) → withNames (withName vs v) (w .reads ++ vm) ≡ withNames vs (cmdVars c ++ vm)
+        whole-names vs vm = taken vs (w .reads ++ vm) ∙ ap (λ (ws : List Name). withNames vs (ws ++ vm)) (sym (w .variables))
+
+-- a command whose words follow from those of its expression
+does-one : {s t t′ p k code code₁ code′ : List ℕ} {n out out′ place kind a : ℕ} {e : Expr Name} {c : Cmd Name} → Wrote s t t′ code code₁ out out′ e → code′ ≡ putCommand code₁ n kind a place 0 0 → place ≡ out → cmdVars c ≡ exprVars e → cmdProperties c ≡ [] → cmdCalls c ≡ [] → cmdSize c ≡ exprSize e → ((vs qs fs : List Name) → cmdNodes (numbered vs qs fs c) ≡ nodesOf vs e) → ((vs qs fs : List Name) → cmdWords out (numbered vs qs fs c) ≡ kind ∷ a ∷ out ∷ 0 ∷ 0 ∷ []) → {j : ℕ} {b : Bool} → j ≡ jumpAt c → b ≡ isEnd c → Does s t t′ p p k k code code′ n out out′ j b c
+does-one {s} {t} {t′} {p} {k} {code} {code₁} {code′} {n} {out} {place = place} {kind = kind} {a = a} {e = e} {c = c} w f z ev ep ek es en ew ej eb =
+    record {
+      vars = subst (λ (ws : List Name). Grows s 16 t t′ ws) (sym ev) (w .vars);
+      props = subst (λ (ws : List Name). Grows s 32 p p ws) (sym ep) grows-none;
+      calls = subst (λ (ws : List Name). Grows s 16 k k ws) (sym ek) grows-none;
+      jumps = ej;
+      ending = eb;
+      long = ap length f ∙ command-long code₁ n kind a place 0 0 ∙ w .long;
+      size = λ h. w .size (subst (λ (m : ℕ). out + m ≤ 18994) es h) ∙ ap (λ (m : ℕ). out + m) (sym es);
+      words = λ vs vm qs qm fs fm kv kq kf l h m.
+          f
+          ∙ command-sets code₁ n kind a place 0 0 (w .long ∙ l) m
+          ∙ ap (λ (x : ℕ). sets code₁ (50 + 5 * n) (kind ∷ a ∷ x ∷ 0 ∷ 0 ∷ [])) z
+          ∙ ap (λ (b : List ℕ). sets b (50 + 5 * n) (kind ∷ a ∷ out ∷ 0 ∷ 0 ∷ [])) (w .words vs vm kv l (subst (λ (m : ℕ). out + m ≤ 18994) es h) ∙ ap (λ (ws : List Name). sets code out (nodesOf (withNames vs (ws ++ vm)) e)) (sym ev) ∙ ap (sets code out) (sym (en (withNames vs (cmdVars c ++ vm)) (withNames qs (cmdProperties c ++ qm)) (withNames fs (cmdCalls c ++ fm)))))
+          ∙ ap (sets (sets code out (cmdNodes (numbered (withNames vs (cmdVars c ++ vm)) (withNames qs (cmdProperties c ++ qm)) (withNames fs (cmdCalls c ++ fm)) c))) (50 + 5 * n)) (sym (ew (withNames vs (cmdVars c ++ vm)) (withNames qs (cmdProperties c ++ qm)) (withNames fs (cmdCalls c ++ fm))));
+    }
 
 pub does-jump : {s t t′ p k code code₁ code′ : List ℕ} {n out out′ place m j : ℕ} {e : Expr Name} → Wrote s t t′ code code₁ out out′ e → code′ ≡ putCommand code₁ n 2 m place 0 0 → place ≡ out → j ≡ suc m → Does s t t′ p p k k code code′ n out out′ j false (ifgoto e m)
-unfolding cmdVars cmdProperties cmdCalls jumpAt isEnd
-does-jump w e z h = record { vars = w .vars; props = grows-none; calls = grows-none; jumps = h; ending = refl }
+unfolding nodesOf cmdVars cmdProperties cmdCalls jumpAt isEnd cmdSize numbered renameCmd cmdNodes cmdWords
+does-jump w e z h = does-one w e z refl refl refl refl (λ vs qs fs. refl) (λ vs qs fs. refl) h refl
 
 pub does-ending : {s t t′ p k code code₁ code′ : List ℕ} {n out out′ place kind : ℕ} {h : Expr Name → Cmd Name} {e : Expr Name} → Ending kind h → Wrote s t t′ code code₁ out out′ e → code′ ≡ putCommand code₁ n kind 0 place 0 0 → place ≡ out → Does s t t′ p p k k code code′ n out out′ 0 true (h e)
-unfolding cmdVars cmdProperties cmdCalls jumpAt isEnd
-does-ending returning w e z = record { vars = w .vars; props = grows-none; calls = grows-none; jumps = refl; ending = refl }
-does-ending failing w e z = record { vars = w .vars; props = grows-none; calls = grows-none; jumps = refl; ending = refl }
+unfolding nodesOf cmdVars cmdProperties cmdCalls jumpAt isEnd cmdSize numbered renameCmd cmdNodes cmdWords
+does-ending returning w e z = does-one w e z refl refl refl refl (λ vs qs fs. refl) (λ vs qs fs. refl) refl refl
+does-ending failing w e z = does-one w e z refl refl refl refl (λ vs qs fs. refl) (λ vs qs fs. refl) refl refl
 
 pub does-vanish : {s t p k code code′ : List ℕ} {n out : ℕ} → code′ ≡ putCommand code n 11 0 0 0 0 → Does s t t p p k k code code′ n out out 0 true vanish
-unfolding cmdVars cmdProperties cmdCalls jumpAt isEnd
-does-vanish e = record { vars = grows-none; props = grows-none; calls = grows-none; jumps = refl; ending = refl }
+unfolding cmdVars cmdProperties cmdCalls jumpAt isEnd cmdSize numbered renameCmd cmdNodes cmdWords
+does-vanish {code = code} {n = n} {out = out} e =
+    record {
+      vars = grows-none;
+      props = grows-none;
+      calls = grows-none;
+      jumps = refl;
+      ending = refl;
+      long = ap length e ∙ command-long code n 11 0 0 0 0;
+      size = λ h. sym (add-zero out);
+      words = λ vs vm qs qm fs fm kv kq kf l h m. e ∙ command-sets code n 11 0 0 0 0 l m;
+    }

@@ -4,7 +4,7 @@ use mathlib.Core.Path.{_≡_, refl, sym, ap, _∙_}
 use mathlib.Core.Bool.{Bool, true, false}
 use mathlib.Core.List.{List, [], _∷_, _++_}
 use native.Mathlib.Omega.{arith}
-use native.Mathlib.Numerals.{add-one}
+use native.Mathlib.Numerals.{add-one, towards-suc}
 use native.Mathlib.Nat.{add-zero}
 use borrow.Author.Tests.{lt-ltb, ltb-false}
 use lib.ListN.{length, set, length-set}
@@ -79,3 +79,47 @@ node-before l at kind v ws =
     ap (λ (n : ℕ). sets (sets l n ws) at (kind ∷ v ∷ [])) e
     ∙ ap (λ (m : List ℕ). set m (suc at) v) (set-sets l at kind (suc (suc at)) ws (omega arith))
     ∙ set-sets (set l at kind) (suc at) v (suc (suc at)) ws (omega arith)
+
+-- a command's five words
+pub command-long : (ws : List ℕ) (n a b c d e : ℕ) → length (putCommand ws n a b c d e) ≡ length ws
+unfolding putCommand
+command-long ws n a b c d e = pick (ltb n 512)
+  where
+    pick : (t : Bool) → length {A = ℕ} (elim t [ true ↦ put (put (put (put (put ws (50 + 5 * n) a) (50 + 5 * n + 1) b) (50 + 5 * n + 2) c) (50 + 5 * n + 3) d) (50 + 5 * n + 4) e | false ↦ ws ]) ≡ length ws
+    pick true =
+        put-long (put (put (put (put ws (50 + 5 * n) a) (50 + 5 * n + 1) b) (50 + 5 * n + 2) c) (50 + 5 * n + 3) d) (50 + 5 * n + 4) e
+        ∙ put-long (put (put (put ws (50 + 5 * n) a) (50 + 5 * n + 1) b) (50 + 5 * n + 2) c) (50 + 5 * n + 3) d
+        ∙ put-long (put (put ws (50 + 5 * n) a) (50 + 5 * n + 1) b) (50 + 5 * n + 2) c
+        ∙ put-long (put ws (50 + 5 * n) a) (50 + 5 * n + 1) b
+        ∙ put-long ws (50 + 5 * n) a
+    pick false = refl
+
+puts-five : (ws : List ℕ) (at a b c d e : ℕ) → length ws ≡ 18994 → put (put (put (put (put ws at a) (at + 1) b) (at + 2) c) (at + 3) d) (at + 4) e ≡ sets ws at (a ∷ b ∷ c ∷ d ∷ e ∷ [])
+puts-five ws at a b c d e l =
+    put-set (put (put (put (put ws at a) (at + 1) b) (at + 2) c) (at + 3) d) (at + 4) e l₄
+    ∙ ap (λ (x : List ℕ). set x (at + 4) e) (put-set (put (put (put ws at a) (at + 1) b) (at + 2) c) (at + 3) d l₃
+    ∙ ap (λ (x : List ℕ). set x (at + 3) d) (put-set (put (put ws at a) (at + 1) b) (at + 2) c l₂
+    ∙ ap (λ (x : List ℕ). set x (at + 2) c) (put-set (put ws at a) (at + 1) b l₁
+    ∙ ap (λ (x : List ℕ). set x (at + 1) b) (put-set ws at a l))))
+    ∙ simp towards-suc
+  where
+    l₁ : length (put ws at a) ≡ 18994
+    l₁ = put-long ws at a ∙ l
+
+    l₂ : length (put (put ws at a) (at + 1) b) ≡ 18994
+    l₂ = put-long (put ws at a) (at + 1) b ∙ l₁
+
+    l₃ : length (put (put (put ws at a) (at + 1) b) (at + 2) c) ≡ 18994
+    l₃ = put-long (put (put ws at a) (at + 1) b) (at + 2) c ∙ l₂
+
+    l₄ : length (put (put (put (put ws at a) (at + 1) b) (at + 2) c) (at + 3) d) ≡ 18994
+    l₄ = put-long (put (put (put ws at a) (at + 1) b) (at + 2) c) (at + 3) d ∙ l₃
+
+pub command-sets : (ws : List ℕ) (n a b c d e : ℕ) → length ws ≡ 18994 → n < 512 → putCommand ws n a b c d e ≡ sets ws (50 + 5 * n) (a ∷ b ∷ c ∷ d ∷ e ∷ [])
+unfolding putCommand
+command-sets ws n a b c d e l h = rw (lt-ltb n 512 h, putCommand) (puts-five ws (50 + 5 * n) a b c d e l)
+
+-- runs of stores at places apart
+pub sets-swap : (l : List ℕ) (i : ℕ) (a : List ℕ) (j : ℕ) (b : List ℕ) → i + length a ≤ j → sets (sets l i a) j b ≡ sets (sets l j b) i a
+sets-swap l i [] j b h = refl
+sets-swap l i (x ∷ a) j b h = sets-swap (set l i x) (suc i) a j b (omega arith) ∙ ap (λ (m : List ℕ). sets m (suc i) a) (sym (set-sets l i x j b (omega arith)))

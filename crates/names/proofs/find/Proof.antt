@@ -1,3 +1,4 @@
+-- `names::find` meets its contract. Assumes nothing.
 use Rattle.names.specs.Tables.{searched}
 use borrow.Author.Needs.{needs}
 use Rattle.names.proofs.find.Statement.{statement}

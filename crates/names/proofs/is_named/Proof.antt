@@ -1,3 +1,4 @@
+-- `names::is_named` meets its contract. Assumes nothing.
 use mathlib.Core.Path.{ap, _∙_}
 use native.Mathlib.Omega.{arith}
 use Rattle.gil.specs.Text

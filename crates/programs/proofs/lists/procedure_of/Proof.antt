@@ -1,3 +1,4 @@
+-- `programs::lists::procedure_of` meets its contract. Assumes nothing.
 use native.Mathlib.Omega.{arith}
 use Rattle.programs.specs.Procedures.{procedure-goes, declares}
 use borrow.Author.Needs.{needs}

@@ -1,3 +1,4 @@
+-- `programs::lists::procedures_of` meets its contract. Assumes nothing.
 use Prim.Native.Nat.{ℕ, suc, _≤_, _-_, _*_}
 use mathlib.Core.Path.{_≡_, refl}
 use native.Mathlib.Omega.{arith}

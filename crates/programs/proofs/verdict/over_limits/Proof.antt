@@ -1,3 +1,4 @@
+-- `programs::verdict::over_limits` meets its contract. Assumes nothing.
 use mathlib.Core.Path.{sym}
 use borrow.Author.Tests.{lt-ltb, le-ltb}
 use Rattle.programs.proofs.verdict.over_limits.Statement.{statement}

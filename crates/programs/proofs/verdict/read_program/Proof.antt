@@ -1,3 +1,4 @@
+-- `programs::verdict::read_program` meets its contract. Assumes nothing.
 use Rattle.programs.specs.Verdict.{answer-3, answer-read}
 use borrow.Author.Needs.{needs}
 use Rattle.programs.proofs.verdict.read_program.Statement.{statement}

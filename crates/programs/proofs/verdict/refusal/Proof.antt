@@ -1,3 +1,4 @@
+-- `programs::verdict::refusal` meets its contract. Assumes nothing.
 use Rattle.programs.specs.Verdict.{answer-4, answer-tests, answer-chain, kept-procs, kept-calls, procs-count}
 use Rattle.programs.specs.Items.{was-read}
 use Rattle.programs.specs.Procedures.{callsOf}

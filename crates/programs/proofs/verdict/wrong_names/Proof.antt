@@ -1,3 +1,4 @@
+-- `programs::verdict::wrong_names` meets its contract. Assumes nothing.
 use Rattle.programs.specs.Verdict.{names-repeated, names-over, names-missing, names-main}
 use mathlib.Core.Path.{sym, _∙_}
 use Rattle.gil.specs.Text.{bytes}

@@ -1,3 +1,4 @@
+-- `reader::commands::bare_command` meets its contract. Assumes nothing.
 use Rattle.reader.specs.Commands.{bare-form, bare-done, bare-none, commandBy}
 use Rattle.reader.specs.Effects.{does-vanish, returning, failing}
 use mathlib.Core.Path.{refl}

@@ -1,3 +1,4 @@
+-- `reader::commands::call_of` meets its contract. Assumes nothing.
 use Rattle.reader.specs.Commands.{call-goes}
 use Rattle.reader.specs.Effects.{sets-call}
 use mathlib.Core.Path.{refl}

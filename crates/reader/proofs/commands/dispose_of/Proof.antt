@@ -1,3 +1,4 @@
+-- `reader::commands::dispose_of` meets its contract. Assumes nothing.
 use Rattle.reader.specs.Commands.{dispose-goes}
 use Rattle.reader.specs.Effects.{sets-dispose}
 use mathlib.Core.Path.{refl}

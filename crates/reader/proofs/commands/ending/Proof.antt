@@ -1,3 +1,4 @@
+-- `reader::commands::ending` meets its contract. Assumes nothing.
 use Rattle.reader.specs.Commands.{ending-goes}
 use Rattle.reader.specs.Effects.{does-ending}
 use mathlib.Core.Path.{refl}

@@ -1,3 +1,4 @@
+-- `reader::commands::jumping` meets its contract. Assumes nothing.
 use Rattle.reader.specs.Commands.{jump-goes}
 use Rattle.reader.specs.Effects.{does-jump, Does}
 use mathlib.Core.Path.{refl, _≡_, sym, _∙_, ap, subst}

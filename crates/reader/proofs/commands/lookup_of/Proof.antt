@@ -1,3 +1,4 @@
+-- `reader::commands::lookup_of` meets its contract. Assumes nothing.
 use Rattle.reader.specs.Commands.{lookup-goes}
 use Rattle.reader.specs.Effects.{sets-lookup}
 use mathlib.Core.Path.{refl, _≡_, subst}

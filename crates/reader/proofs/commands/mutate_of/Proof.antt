@@ -1,3 +1,4 @@
+-- `reader::commands::mutate_of` meets its contract. Assumes nothing.
 use Rattle.reader.specs.Commands.{mutate-goes}
 use Rattle.reader.specs.Effects.{sets-mutate}
 use mathlib.Core.Path.{refl, _≡_, subst}

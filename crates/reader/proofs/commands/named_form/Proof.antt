@@ -1,3 +1,4 @@
+-- `reader::commands::named_form` meets its contract. Assumes nothing.
 use Rattle.reader.specs.Commands.{named-call, named-var}
 use Rattle.reader.specs.Effects.{sets-plain, wrote-var}
 use mathlib.Core.Path.{refl, _≡_, subst}

@@ -1,3 +1,4 @@
+-- `reader::commands::plain` meets its contract. Assumes nothing.
 use Rattle.reader.specs.Commands.{plain-goes}
 use Rattle.reader.specs.Effects.{sets-plain}
 use mathlib.Core.Path.{refl}

@@ -1,3 +1,4 @@
+-- `reader::commands::read_command` meets its contract. Assumes nothing.
 use Rattle.reader.specs.Commands.{command-goes}
 use borrow.Author.Needs.{needs}
 use Rattle.reader.proofs.commands.read_command.Statement.{statement}

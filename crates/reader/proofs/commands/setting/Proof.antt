@@ -1,3 +1,4 @@
+-- `reader::commands::setting` meets its contract. Assumes nothing.
 use Rattle.reader.specs.Commands.{setting-goes}
 use Rattle.reader.specs.Effects.{does-setting}
 use mathlib.Core.Path.{refl}

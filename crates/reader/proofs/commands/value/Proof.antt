@@ -1,3 +1,4 @@
+-- `reader::commands::value` meets its contract. Assumes nothing.
 use Rattle.reader.specs.Commands.{value-here, value-past, value-done, value-plain, valueBy, valueBySite}
 use Rattle.reader.specs.Effects.{sets-u, sets-i}
 use mathlib.Core.Path.{refl, _≡_, subst}

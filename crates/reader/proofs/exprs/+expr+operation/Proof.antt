@@ -1,3 +1,4 @@
+-- `reader::exprs::expr` and `operation`, which call each other, meet their contracts: the depth left falls. Assumes nothing.
 use mathlib.Core.Path.{_≡_, refl, sym, ap, _∙_}
 use mathlib.Core.Bool.{true, false}
 use native.Mathlib.Omega.{arith}

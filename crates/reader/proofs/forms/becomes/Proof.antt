@@ -1,3 +1,4 @@
+-- `reader::forms::becomes` meets its contract. Assumes nothing.
 use Rattle.reader.specs.Seeing.{becomes-goes, becomes-fails}
 use borrow.Author.Needs.{needs}
 use Rattle.reader.proofs.forms.becomes.Statement.{statement}

@@ -1,3 +1,4 @@
+-- `reader::forms::mark` meets its contract. Assumes nothing.
 use Rattle.reader.specs.Seeing.{mark-goes, mark-fails}
 use borrow.Author.Needs.{needs}
 use Rattle.reader.proofs.forms.mark.Statement.{statement}

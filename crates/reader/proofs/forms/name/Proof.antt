@@ -1,3 +1,4 @@
+-- `reader::forms::name` meets its contract. Assumes nothing.
 use Rattle.reader.specs.Seeing.{name-goes, name-fails}
 use borrow.Author.Needs.{needs}
 use Rattle.reader.proofs.forms.name.Statement.{statement}

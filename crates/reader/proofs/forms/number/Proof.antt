@@ -1,3 +1,4 @@
+-- `reader::forms::number` meets its contract. Assumes nothing.
 use Rattle.reader.specs.Seeing.{number-goes, number-fails}
 use borrow.Author.Needs.{needs}
 use Rattle.reader.proofs.forms.number.Statement.{statement}

@@ -1,3 +1,4 @@
+-- `reader::forms::operator` meets its contract. Assumes nothing.
 use mathlib.Core.Path.{refl}
 use native.Mathlib.Omega.{arith}
 use Rattle.gil.specs.Tree.{plus, minus, equal, less, and, or}

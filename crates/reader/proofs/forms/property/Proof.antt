@@ -1,3 +1,4 @@
+-- `reader::forms::property` meets its contract. Assumes nothing.
 use Rattle.reader.specs.Seeing.{property-goes, property-fails}
 use borrow.Author.Needs.{needs}
 use Rattle.reader.proofs.forms.property.Statement.{statement}

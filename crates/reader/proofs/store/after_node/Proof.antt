@@ -1,3 +1,4 @@
+-- `reader::store::after_node` meets its contract. Assumes nothing.
 use Prim.Native.Nat.{_+_}
 use borrow.Author.Tests.{lt-ltb, le-ltb}
 use native.Mathlib.Omega.{arith}

@@ -1,3 +1,4 @@
+-- `reader::store::store` meets its contract. Assumes nothing.
 use borrow.Author.Tests.{lt-ltb, le-ltb}
 use Rattle.reader.specs.Stores.{put}
 use borrow.Author.Needs.{needs}

@@ -1,3 +1,4 @@
+-- `reader::store::store_node` meets its contract. Assumes nothing.
 use mathlib.Core.Path.{ap, _∙_}
 use Prim.Native.Nat.{_+_, ℕ}
 use mathlib.Core.List.{List}

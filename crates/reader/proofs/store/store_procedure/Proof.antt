@@ -1,3 +1,4 @@
+-- `reader::store::store_procedure` meets its contract. Assumes nothing.
 use borrow.Author.Tests.{lt-ltb, le-ltb}
 use Rattle.reader.specs.Stores.{put, putProcedure}
 use borrow.Author.Needs.{needs}

@@ -1,3 +1,4 @@
+-- `tokens::classes::is_digit` meets its contract. Assumes nothing.
 use mathlib.Core.Bool.{true, false}
 use native.Mathlib.Omega.{arith}
 use mathlib.Core.Path.{refl, sym}

@@ -1,3 +1,4 @@
+-- `tokens::lexemes::coloned` meets its contract. Assumes nothing.
 use Rattle.tokens.specs.Seen.{found-colon, found-colon-last, found-becomes}
 use borrow.Author.Needs.{needs}
 use Rattle.tokens.proofs.lexemes.coloned.Statement.{statement}

@@ -1,3 +1,4 @@
+-- `tokens::lexemes::quoted` meets its contract. Assumes nothing.
 use Rattle.tokens.specs.Seen.{quote-last, quote-open, quote-empty, quote-long, quote-property}
 use borrow.Author.Needs.{needs}
 use Rattle.tokens.proofs.lexemes.quoted.Statement.{statement}

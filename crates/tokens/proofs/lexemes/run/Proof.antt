@@ -1,3 +1,4 @@
+-- `tokens::lexemes::run` meets its contract. Assumes nothing.
 use Prim.Native.Nat.{_≤_}
 use native.Mathlib.Omega.{arith}
 use Rattle.gil.specs.Text.{inRun}

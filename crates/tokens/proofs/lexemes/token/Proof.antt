@@ -1,3 +1,4 @@
+-- `tokens::lexemes::token` meets its contract. Assumes nothing.
 use Rattle.tokens.specs.Seen.{found-past}
 use borrow.Author.Needs.{needs}
 use Rattle.tokens.proofs.lexemes.token.Statement.{statement}

@@ -1,3 +1,4 @@
+-- `tokens::lexemes::token_from` meets its contract. Assumes nothing.
 use mathlib.Core.Path.{sym, _∙_, refl, ap}
 use native.Mathlib.Omega.{arith}
 use lib.ListN.{getD}

@@ -1,3 +1,4 @@
+-- `tokens::words::identifier_of` meets its contract. Assumes nothing.
 use Rattle.tokens.specs.Words.{identifier-long, identifier-key, identifier-other}
 use borrow.Author.Needs.{needs}
 use Rattle.tokens.proofs.words.identifier_of.Statement.{statement}

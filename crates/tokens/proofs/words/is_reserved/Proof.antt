@@ -1,3 +1,4 @@
+-- `tokens::words::is_reserved` meets its contract. Assumes nothing.
 use mathlib.Core.Path.{sym, ap, _∙_}
 use native.Mathlib.Omega.{arith}
 use Rattle.gil.specs.Text.{bytes}

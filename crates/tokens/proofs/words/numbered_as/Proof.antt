@@ -1,3 +1,4 @@
+-- `tokens::words::numbered_as` meets its contract. Assumes nothing.
 use native.Mathlib.Omega.{arith}
 use Rattle.tokens.specs.Words.{numbered-some, numbered-none}
 use borrow.Author.Needs.{needs}

@@ -1,3 +1,4 @@
+-- `tokens::words::symbol_of` meets its contract. Assumes nothing.
 use mathlib.Core.Path.{sym, ap, _∙_}
 use native.Mathlib.Omega.{arith}
 use lib.Seq.{length-take-le}

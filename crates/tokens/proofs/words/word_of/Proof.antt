@@ -1,3 +1,4 @@
+-- `tokens::words::word_of` meets its contract. Assumes nothing.
 use mathlib.Core.Path.{sym, ap, _∙_}
 use Rattle.tokens.specs.Words.{word-none, word-letter, word-number}
 use borrow.Author.Needs.{needs}
