@@ -32,7 +32,7 @@ use Rattle.path.specs.Followed.{Spot, followIn, oneIn}
 use Rattle.path.specs.Few.{move-few}
 use Rattle.path.specs.Laws.{Onward, stays, moves, SpotAs, one, one-as, Followed, follows, few-on}
 
-pick-false : {A : Type 0} (b : Bool) (x y : A) → b ≡ false → _≡_ {A = A} (elim b [ true ↦ x | false ↦ y ]) y
+pub pick-false : {A : Type 0} (b : Bool) (x y : A) → b ≡ false → _≡_ {A = A} (elim b [ true ↦ x | false ↦ y ]) y
 pick-false true x y e = let z : _≡_ {A = ℕ} 0 1 = cc in absurd (omega arith)
 pick-false false x y e = refl
 
@@ -117,7 +117,7 @@ module _ (p : Program) (ok : WellFormed p) where
     unfolding overfull
     sound-counts {x} h e =
         let m = one-as pooledEngine p ok h in
-        let same : one pooledEngine p x .count ≡ pooled .made (move pooled p w s .world) = 
+        let same : one pooledEngine p x .count ≡ pooled .made (move pooled p w s .world) =
         counts-terms (move pooled p w s .world) (one pooledEngine p x .pool) (one pooledEngine p x .count) (m .world) (moved-few h) in
         le-ltb 2048 (pooled .made (move pooled p w s .world)) (omega (arith, leb-true (one pooledEngine p x .count) 2048 e))
 

@@ -128,7 +128,7 @@ module _ {M : Model} (E : Engine M) (p : Program) where
           let g = gone-on (x .control) (one x .count) (m .next) e in
           let fits : overfull M p (move M p w s .world) ≡ false = counts w s x i h (g .few) in
           let f = rest (suc n) (move M p w s .world) (g .state) (spotAfter x (one x))
-              (keeps w s (g .state) i (g .next) fits) (record { state = g .stands; world = m .world }) in
+          (keeps w s (g .state) i (g .next) fits) (record { state = g .stands; world = m .world }) in
           record {
             left = f .left;
             taken = f .taken;

@@ -104,10 +104,10 @@ module _ (inputs : List ℕ) (fits : (i : ℕ) → getD inputs i 0 < 4294967296)
     unfolding plain plainEngine plainRun start
     plain-row =
         let g =
-            follows E p ok AFew (λ w s x i h l. never-full (move (plain inputs) p w s .world))
-            (λ w s s′ i n l. few-on (move-few (plain inputs) p s i w) n)
-            budget 0 tt (start p) (spot (startIn (programWords p)) startStore [] pool count)
-            (omega arith) (record { state = start-as E p ok; world = record { samePool = refl; sameCount = refl } }) in
+        follows E p ok AFew (λ w s x i h l. never-full (move (plain inputs) p w s .world))
+        (λ w s s′ i n l. few-on (move-few (plain inputs) p s i w) n)
+        budget 0 tt (start p) (spot (startIn (programWords p)) startStore [] pool count)
+        (omega arith) (record { state = start-as E p ok; world = record { samePool = refl; sameCount = refl } }) in
         rw (run-onward inputs p (g .onward))
         (at-stop conditions held cells (g .stands) (g .still) (omega (arith, onward-steps (g .onward)))
         (subst (λ (y : Stopped). Stops E p (g .left) (g .taken) (g .spot) y) (sym e) (g .stops)) inside same)
