@@ -1,4 +1,5 @@
 pub mod Items
 pub mod Lists
+pub mod Words
 pub mod Procedures
 pub mod Verdict

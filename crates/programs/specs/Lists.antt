@@ -34,10 +34,13 @@ unfolding highest
 highest-more [] c = omega arith
 highest-more (d ∷ cs) c = omega (arith, highest-more cs c)
 
-pub gather-more : {A B : Type 0} (f : A → List B) (l : List A) (a : A) → gather f (l ++ (a ∷ [])) ≡ gather f l ++ f a
+pub gather-append : {A B : Type 0} (f : A → List B) (l m : List A) → gather f (l ++ m) ≡ gather f l ++ gather f m
 unfolding gather
-gather-more f [] a = append-nil (f a)
-gather-more f (b ∷ l) a = ap (λ (m : List _). f b ++ m) (gather-more f l a) ∙ sym (append-assoc (f b) (gather f l) (f a))
+gather-append f [] m = refl
+gather-append f (b ∷ l) m = ap (λ (k : List _). f b ++ k) (gather-append f l m) ∙ sym (append-assoc (f b) (gather f l) (gather f m))
+
+pub gather-more : {A B : Type 0} (f : A → List B) (l : List A) (a : A) → gather f (l ++ (a ∷ [])) ≡ gather f l ++ f a
+gather-more f l a = gather-append f l (a ∷ []) ∙ (unfold gather in ap (λ (k : List _). gather f l ++ k) (append-nil (f a)))
 
 pub open-more : (cs : List (Cmd Name)) (c : Cmd Name) → endsOpen (cs ++ (c ∷ [])) ≡ not (isEnd c)
 unfolding endsOpen
@@ -53,10 +56,14 @@ unfoldable pub bodySize : List (Cmd Name) → ℕ
 bodySize [] = 0
 bodySize (c ∷ cs) = cmdSize c + bodySize cs
 
+pub size-append : (cs ds : List (Cmd Name)) → bodySize (cs ++ ds) ≡ bodySize cs + bodySize ds
+unfolding bodySize
+size-append [] ds = omega arith
+size-append (c ∷ cs) ds = omega (arith, size-append cs ds)
+
 pub size-more : (cs : List (Cmd Name)) (c : Cmd Name) → bodySize (cs ++ (c ∷ [])) ≡ bodySize cs + cmdSize c
 unfolding bodySize
-size-more [] c = omega arith
-size-more (d ∷ cs) c = omega (arith, size-more cs c)
+size-more cs c = omega (arith, size-append cs (c ∷ []))
 
 cmd-nodes-size : (vs qs fs : List Name) (c : Cmd Name) → length (cmdNodes (numbered vs qs fs c)) ≡ cmdSize c
 unfolding cmdNodes numbered renameCmd cmdSize nodesOf
@@ -96,32 +103,45 @@ unfolding commandWords
 words-length at [] = refl
 words-length at (r ∷ rs) = length-append (cmdWords at r) (commandWords (at + length (cmdNodes r)) rs) ∙ (let h = five-words at r in let k = words-length (at + length (cmdNodes r)) rs in omega arith)
 
-pub words-more : (at : ℕ) (rs : List (Cmd ℕ)) (r : Cmd ℕ) → commandWords at (rs ++ (r ∷ [])) ≡ commandWords at rs ++ cmdWords (at + length (gather cmdNodes rs)) r
+pub words-append : (at : ℕ) (rs us : List (Cmd ℕ)) → commandWords at (rs ++ us) ≡ commandWords at rs ++ commandWords (at + length (gather cmdNodes rs)) us
 unfolding commandWords gather
-words-more at [] r = append-nil (cmdWords at r) ∙ ap (λ (n : ℕ). cmdWords n r) (sym (add-zero at))
-words-more at (q ∷ rs) r =
-    ap (λ (l : List ℕ). cmdWords at q ++ l) (words-more (at + length (cmdNodes q)) rs r)
-    ∙ sym (append-assoc (cmdWords at q) (commandWords (at + length (cmdNodes q)) rs) (cmdWords (at + length (cmdNodes q) + length (gather cmdNodes rs)) r))
-    ∙ (let e : at + length (cmdNodes q) + length (gather cmdNodes rs) ≡ at + length (cmdNodes q ++ gather cmdNodes rs) = omega (arith, length-append (cmdNodes q) (gather cmdNodes rs)) in ap (λ (n : ℕ). (cmdWords at q ++ commandWords (at + length (cmdNodes q)) rs) ++ cmdWords n r) e)
+words-append at [] us = ap (λ (n : ℕ). commandWords n us) (sym (add-zero at))
+words-append at (q ∷ rs) us =
+    ap (λ (l : List ℕ). cmdWords at q ++ l) (words-append (at + length (cmdNodes q)) rs us)
+    ∙ sym (append-assoc (cmdWords at q) (commandWords (at + length (cmdNodes q)) rs) (commandWords (at + length (cmdNodes q) + length (gather cmdNodes rs)) us))
+    ∙ (let e : at + length (cmdNodes q) + length (gather cmdNodes rs) ≡ at + length (cmdNodes q ++ gather cmdNodes rs) = omega (arith, length-append (cmdNodes q) (gather cmdNodes rs)) in ap (λ (n : ℕ). (cmdWords at q ++ commandWords (at + length (cmdNodes q)) rs) ++ commandWords n us) e)
 
 -- the words of commands: their nodes from `out` on, their five words each from that of command `first` on
 unfoldable pub bodyStored : List ℕ → ℕ → ℕ → List (Cmd ℕ) → List ℕ
 bodyStored code first out rs = sets (sets code out (gather cmdNodes rs)) (50 + 5 * first) (commandWords out rs)
 
--- one command more
-pub stored-more : (code : List ℕ) (first out : ℕ) (rs : List (Cmd ℕ)) (r : Cmd ℕ) → 2610 ≤ out → first + length rs ≤ 512 → sets (sets (bodyStored code first out rs) (out + length (gather cmdNodes rs)) (cmdNodes r)) (50 + 5 * (first + length rs)) (cmdWords (out + length (gather cmdNodes rs)) r) ≡ bodyStored code first out (rs ++ (r ∷ []))
+-- more commands
+pub stored-append : (code : List ℕ) (first out : ℕ) (rs us : List (Cmd ℕ)) → 2610 ≤ out → first + length rs ≤ 512 → bodyStored (bodyStored code first out rs) (first + length rs) (out + length (gather cmdNodes rs)) us ≡ bodyStored code first out (rs ++ us)
 unfolding bodyStored
-stored-more code first out rs r low h =
+stored-append code first out rs us low h =
     let n = out + length (gather cmdNodes rs) in
     let z : 50 + 5 * (first + length rs) ≡ 50 + 5 * first + length (commandWords out rs) = omega (arith, words-length out rs) in
-    ap (λ (x : List ℕ). sets x (50 + 5 * (first + length rs)) (cmdWords n r)) (sets-swap (sets code out (gather cmdNodes rs)) (50 + 5 * first) (commandWords out rs) n (cmdNodes r) (omega (arith, words-length out rs)))
-    ∙ ap (λ (x : List ℕ). sets (sets x (50 + 5 * first) (commandWords out rs)) (50 + 5 * (first + length rs)) (cmdWords n r)) (sym (sets-append code out (gather cmdNodes rs) (cmdNodes r)) ∙ ap (sets code out) (sym (gather-more cmdNodes rs r)))
-    ∙ ap (λ (m : ℕ). sets (sets (sets code out (gather cmdNodes (rs ++ (r ∷ [])))) (50 + 5 * first) (commandWords out rs)) m (cmdWords n r)) z
-    ∙ sym (sets-append (sets code out (gather cmdNodes (rs ++ (r ∷ [])))) (50 + 5 * first) (commandWords out rs) (cmdWords n r))
-    ∙ ap (sets (sets code out (gather cmdNodes (rs ++ (r ∷ [])))) (50 + 5 * first)) (sym (words-more out rs r))
+    ap (λ (x : List ℕ). sets x (50 + 5 * (first + length rs)) (commandWords n us)) (sets-swap (sets code out (gather cmdNodes rs)) (50 + 5 * first) (commandWords out rs) n (gather cmdNodes us) (omega (arith, words-length out rs)))
+    ∙ ap (λ (x : List ℕ). sets (sets x (50 + 5 * first) (commandWords out rs)) (50 + 5 * (first + length rs)) (commandWords n us)) (sym (sets-append code out (gather cmdNodes rs) (gather cmdNodes us)) ∙ ap (sets code out) (sym (gather-append cmdNodes rs us)))
+    ∙ ap (λ (m : ℕ). sets (sets (sets code out (gather cmdNodes (rs ++ us))) (50 + 5 * first) (commandWords out rs)) m (commandWords n us)) z
+    ∙ sym (sets-append (sets code out (gather cmdNodes (rs ++ us))) (50 + 5 * first) (commandWords out rs) (commandWords n us))
+    ∙ ap (sets (sets code out (gather cmdNodes (rs ++ us))) (50 + 5 * first)) (sym (words-append out rs us))
 
--- the names of one command more, before those that come later
-names-more : (f : Cmd Name → List Name) (so : List (Cmd Name)) (c : Cmd Name) (ns later : List Name) → withNames ns (gather f so ++ (f c ++ later)) ≡ withNames ns (gather f (so ++ (c ∷ [])) ++ later)
+-- one command more
+stored-more : (code : List ℕ) (first out : ℕ) (rs : List (Cmd ℕ)) (r : Cmd ℕ) → 2610 ≤ out → first + length rs ≤ 512 → sets (sets (bodyStored code first out rs) (out + length (gather cmdNodes rs)) (cmdNodes r)) (50 + 5 * (first + length rs)) (cmdWords (out + length (gather cmdNodes rs)) r) ≡ bodyStored code first out (rs ++ (r ∷ []))
+stored-more code first out rs r low h =
+    let n = out + length (gather cmdNodes rs) in
+    let m = 50 + 5 * (first + length rs) in
+    ap (λ (x : List ℕ). sets (sets (bodyStored code first out rs) n x) m (cmdWords n r)) (sym (append-nil (cmdNodes r)))
+    ∙ ap (sets (sets (bodyStored code first out rs) n (cmdNodes r ++ [])) m) (sym (append-nil (cmdWords n r)))
+    ∙ one
+    ∙ stored-append code first out rs (r ∷ []) low h
+  where
+    one : sets (sets (bodyStored code first out rs) (out + length (gather cmdNodes rs)) (cmdNodes r ++ [])) (50 + 5 * (first + length rs)) (cmdWords (out + length (gather cmdNodes rs)) r ++ []) ≡ bodyStored (bodyStored code first out rs) (first + length rs) (out + length (gather cmdNodes rs)) (r ∷ [])
+    one = unfold bodyStored gather commandWords in refl
+
+-- the names of one item more, before those that come later
+pub names-more : {A : Type 0} (f : A → List Name) (so : List A) (c : A) (ns later : List Name) → withNames ns (gather f so ++ (f c ++ later)) ≡ withNames ns (gather f (so ++ (c ∷ [])) ++ later)
 names-more f so c ns later = ap (withNames ns) (sym (append-assoc (gather f so) (f c) later) ∙ ap (λ (l : List Name). l ++ later) (sym (gather-more f so c)))
 
 -- the words of one command more, all names in the tables

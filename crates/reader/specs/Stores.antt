@@ -119,6 +119,26 @@ pub command-sets : (ws : List ℕ) (n a b c d e : ℕ) → length ws ≡ 18994 �
 unfolding putCommand
 command-sets ws n a b c d e l h = rw (lt-ltb n 512 h, putCommand) (puts-five ws (50 + 5 * n) a b c d e l)
 
+-- a procedure's three words
+pub procedure-long : (ws : List ℕ) (n a b c : ℕ) → length (putProcedure ws n a b c) ≡ length ws
+unfolding putProcedure
+procedure-long ws n a b c = pick (ltb n 16)
+  where
+    pick : (t : Bool) → length {A = ℕ} (elim t [ true ↦ put (put (put ws (2 + 3 * n) a) (2 + 3 * n + 1) b) (2 + 3 * n + 2) c | false ↦ ws ]) ≡ length ws
+    pick true = put-long (put (put ws (2 + 3 * n) a) (2 + 3 * n + 1) b) (2 + 3 * n + 2) c ∙ put-long (put ws (2 + 3 * n) a) (2 + 3 * n + 1) b ∙ put-long ws (2 + 3 * n) a
+    pick false = refl
+
+puts-three : (ws : List ℕ) (at a b c : ℕ) → length ws ≡ 18994 → put (put (put ws at a) (at + 1) b) (at + 2) c ≡ sets ws at (a ∷ b ∷ c ∷ [])
+puts-three ws at a b c l =
+    put-set (put (put ws at a) (at + 1) b) (at + 2) c (put-long (put ws at a) (at + 1) b ∙ put-long ws at a ∙ l)
+    ∙ ap (λ (x : List ℕ). set x (at + 2) c) (put-set (put ws at a) (at + 1) b (put-long ws at a ∙ l)
+    ∙ ap (λ (x : List ℕ). set x (at + 1) b) (put-set ws at a l))
+    ∙ simp towards-suc
+
+pub procedure-sets : (ws : List ℕ) (n a b c : ℕ) → length ws ≡ 18994 → n < 16 → putProcedure ws n a b c ≡ sets ws (2 + 3 * n) (a ∷ b ∷ c ∷ [])
+unfolding putProcedure
+procedure-sets ws n a b c l h = rw (lt-ltb n 16 h, putProcedure) (puts-three ws (2 + 3 * n) a b c l)
+
 -- runs of stores at places apart
 pub sets-swap : (l : List ℕ) (i : ℕ) (a : List ℕ) (j : ℕ) (b : List ℕ) → i + length a ≤ j → sets (sets l i a) j b ≡ sets (sets l j b) i a
 sets-swap l i [] j b h = refl
