@@ -4,10 +4,11 @@ use mathlib.Core.Path.{_≡_, refl, sym, ap, _∙_}
 use mathlib.Core.List.{List, [], _∷_, _++_, map}
 use native.Mathlib.Omega.{arith}
 use native.Mathlib.Nat.{add-zero}
-use lib.ListN.{length, length-append, length-map}
-use lib.Seq.{sets}
+use lib.ListN.{length, take, length-append, length-map}
+use lib.Seq.{sets, take-all}
 use Rattle.gil.specs.Tree.{Cmd, Proc, Name}
-use Rattle.gil.specs.Names.{gather, procVars, Procedure}
+use Rattle.gil.specs.Names.{gather, placeOf, renameCmd, procVars, Procedure, numberProc}
+use Rattle.names.specs.Tables.{numberIn}
 use Rattle.code.specs.Code.{cmdNodes, commandWords, procedureWords}
 use Rattle.reader.specs.Stores.{sets-append, sets-swap}
 use Rattle.reader.specs.Effects.{numbered}
@@ -79,3 +80,15 @@ module _ (ns fs : List Name) where
       ap length (gather-append cmdNodes (map (numbered (procVars r) ns fs) (r .body)) (bodies (map (procOf ns fs) ps)))
       ∙ length-append (gather cmdNodes (map (numbered (procVars r) ns fs) (r .body))) (gather cmdNodes (bodies (map (procOf ns fs) ps)))
       ∙ (let h = nodes-kept ps in omega (arith, body-nodes-size (procVars r) ns fs (r .body), size-append (r .body) (gather (λ q. q .body) ps)))
+
+-- within the limits a procedure is stored as document 01 numbers it, but for its callees
+pub proc-is : (ns fs : List Name) (r : Proc Name) → length (procVars r) ≤ 16 → length ns ≤ 32 → procOf ns fs r ≡ numberProc (λ w. placeOf w ns) (numberIn 16 fs) r
+unfolding procOf numberProc numbered numberIn
+proc-is ns fs r few small =
+    let e : min (16 + 1) (length (procVars r)) ≡ length (procVars r) = omega arith in
+    ap (λ (n : ℕ). made n (take 16 (procVars r)) (take 32 ns)) e
+    ∙ ap (λ (l : List Name). made (length (procVars r)) l (take 32 ns)) (take-all 16 (procVars r) few)
+    ∙ ap (made (length (procVars r)) (procVars r)) (take-all 32 ns small)
+  where
+    made : ℕ → List Name → List Name → Procedure
+    made n vs qs = record { name = r .name; variables = n; body = map (renameCmd (λ w. placeOf w vs) (λ w. placeOf w qs) (λ w. placeOf w (take 16 fs))) (r .body) }
