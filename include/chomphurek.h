@@ -17,6 +17,7 @@
  *              the lent memory is untouched; after 9 and 10 the needed part of table and pool is all zero.
  *   Threads    There is no state between or beside calls. Calls may run at once in several threads, as long as no buffer
  *              that one of them writes is used by another; a text and an input list may be shared.
+ *   State      Of the four calls the library exports chomphurek_check so far; README.md says what is in work.
  *   Stack      A call needs at most CHOMPHUREK_STACK_BYTES of stack, allocates nothing and does no input or output.
  */
 #ifndef CHOMPHUREK_H
