@@ -3,3 +3,4 @@ pub mod Lists
 pub mod Words
 pub mod Procedures
 pub mod Verdict
+pub mod Joined
