@@ -2,4 +2,5 @@ pub mod Items
 pub mod Lists
 pub mod Words
 pub mod Procedures
+pub mod Linked
 pub mod Verdict
