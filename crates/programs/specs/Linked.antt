@@ -11,7 +11,7 @@ use lib.Seq.{sets, length-sets, getD-set-same, getD-set-other, set-set, getD-tak
 use lib.Dec.{eqb}
 use Rattle.gil.specs.Text.{bytes, same}
 use Rattle.gil.specs.Tree.{Cmd, assign, ifgoto, call, lookup, mutate, dispose, uSym, iSym, return, fail, vanish, Proc, Name}
-use Rattle.gil.specs.Names.{any, gather, has, placeOf, withNames, repeated, cmdCalls, procVars, properties, procNames, wrongNames, renameCmd, Procedure, numberProc, numberProgram}
+use Rattle.gil.specs.Names.{any, gather, has, placeOf, withNames, repeated, cmdCalls, procVars, properties, procNames, wrongNames, renameExpr, renameCmd, Procedure, numberProc, numberProgram}
 use Rattle.tokens.specs.Seen.{nameAt}
 use Rattle.names.specs.Lists.{same-is}
 use Rattle.names.specs.Distinct.{distinct-is, few-distinct}
@@ -178,3 +178,157 @@ module _ (g : ℕ → ℕ) where
           sets-append l (50 + 5 * i) ws (commandWords n rs)
           ∙ ap (λ (m : ℕ). sets (sets l (50 + 5 * i) ws) m (commandWords n rs)) z
           ∙ sets-swap l (50 + 5 * i) ws (50 + 5 * suc i) (commandWords n rs) (omega arith)
+
+  program-linked : (code₀ : List ℕ) (qs : List Procedure) → length code₀ ≡ 18994 → length (bodies qs) ≤ 512 → length qs ≤ 16 → linkFrom g (programStored code₀ qs) 0 (length (bodies qs)) ≡ programStored code₀ (map (relinkProc g) qs)
+  unfolding programStored bodyStored
+  program-linked code₀ qs l few small =
+      ap (λ (m : List ℕ). linkFrom g m 0 (length (bodies qs))) (sym (sets-swap base 2 (procedureWords 0 qs) 50 (commandWords 2610 (bodies qs)) (omega (arith, three-words 0 qs))))
+      ∙ commands-linked (sets base 2 (procedureWords 0 qs)) 0 2610 (bodies qs) (omega (arith, length-sets base 2 (procedureWords 0 qs), length-sets code₀ 2610 (gather cmdNodes (bodies qs))))
+      ∙ sets-swap base 2 (procedureWords 0 qs) 50 (commandWords 2610 (map (relink g) (bodies qs))) (omega (arith, three-words 0 qs))
+      ∙ ap (λ (ws : List ℕ). sets (sets (sets code₀ 2610 ws) 50 (commandWords 2610 (map (relink g) (bodies qs)))) 2 (procedureWords 0 qs)) (sym (nodes-linked (bodies qs)))
+      ∙ ap (λ (rs : List (Cmd ℕ)). sets (sets (sets code₀ 2610 (gather cmdNodes rs)) 50 (commandWords 2610 rs)) 2 (procedureWords 0 qs)) (sym (bodies-linked qs))
+      ∙ ap (sets (sets (sets code₀ 2610 (gather cmdNodes (bodies (map (relinkProc g) qs)))) 50 (commandWords 2610 (bodies (map (relinkProc g) qs)))) 2) (sym (procedures-linked 0 qs))
+    where
+      base : List ℕ
+      base = sets code₀ 2610 (gather cmdNodes (bodies qs))
+
+-- the loop over the commands
+module _ (g : ℕ → ℕ) (commands : ℕ) where
+  command-long : (ws : List ℕ) (i : ℕ) → length (linkCommand g ws i) ≡ length ws
+  unfolding linkCommand
+  command-long ws i = pick (eqb (getD ws (50 + 5 * i) 0) 3)
+    where
+      pick : (b : Bool) → length {A = ℕ} (elim b [ true ↦ set ws (50 + 5 * i + 3) (g (getD ws (50 + 5 * i + 3) 0)) | false ↦ ws ]) ≡ length ws
+      pick true = length-set ws (50 + 5 * i + 3) (g (getD ws (50 + 5 * i + 3) 0))
+      pick false = refl
+
+  from-long : (ws : List ℕ) (i k : ℕ) → length (linkFrom g ws i k) ≡ length ws
+  unfolding linkFrom
+  from-long ws i zero = refl
+  from-long ws i (suc k) = from-long (linkCommand g ws i) (suc i) k ∙ command-long ws i
+
+  pub link-start : (ws : List ℕ) → linkFrom g ws 0 commands ≡ linkFrom g ws 0 (commands - 0)
+  link-start ws = let e : commands ≡ commands - 0 = omega arith in ap (linkFrom g ws 0) e
+
+  pub link-more : (ws ws′ : List ℕ) (i : ℕ) → i < commands → ws′ ≡ linkCommand g ws i → linkFrom g ws i (commands - i) ≡ linkFrom g ws′ (i + 1) (commands - (i + 1))
+  unfolding linkFrom
+  link-more ws ws′ i h e =
+      let z : commands - i ≡ suc (commands - (i + 1)) = omega arith in
+      ap (linkFrom g ws i) z
+      ∙ ap (λ (m : List ℕ). linkFrom g m (suc i) (commands - (i + 1))) (sym e)
+      ∙ ap (λ (n : ℕ). linkFrom g ws′ n (commands - (i + 1))) (sym (add-one i))
+
+  pub link-end : (ws : List ℕ) (i : ℕ) → commands ≤ i → linkFrom g ws i (commands - i) ≡ ws
+  unfolding linkFrom
+  link-end ws i h = let z : commands - i ≡ 0 = omega arith in ap (linkFrom g ws i) z
+
+pub links-all : (s calls procs : List ℕ) (n commands : ℕ) (code code′ : List ℕ) → linkFrom (calleeIn s calls procs n) code 0 commands ≡ code′ → Links s calls procs n commands code code′
+links-all s calls procs n commands code code′ e =
+    record {
+      long = ap length (sym e) ∙ from-long (calleeIn s calls procs n) commands code 0 commands;
+      words = λ code₀ qs l c m few small nodes.
+          sym e
+          ∙ ap (λ (ws : List ℕ). linkFrom (calleeIn s calls procs n) ws 0 commands) c
+          ∙ ap (linkFrom (calleeIn s calls procs n) (programStored code₀ qs) 0) m
+          ∙ program-linked (calleeIn s calls procs n) code₀ qs l few small;
+    }
+
+-- the linked procedures are document 01's
+name-at : (w : Name) (ns : List Name) (d : Name) → placeOf w ns < length ns → getD ns (placeOf w ns) d ≡ w
+unfolding placeOf
+name-at w [] d h = absurd (omega arith)
+name-at w (n ∷ ns) d h = at (same w n) refl h (name-at w ns d)
+  where
+    at : (t : Bool) → same w n ≡ t → elim t [ true ↦ 0 | false ↦ suc (placeOf w ns) ] < suc (length ns) → (placeOf w ns < length ns → getD ns (placeOf w ns) d ≡ w) → getD (n ∷ ns) (elim t [ true ↦ 0 | false ↦ suc (placeOf w ns) ]) d ≡ w
+    at true e l f = sym (same-is w n e)
+    at false e l f = f (omega arith)
+
+map-each : {A B : Type 0} {f g : A → B} {l : List A} → Each (λ a. f a ≡ g a) l → map f l ≡ map g l
+map-each none = refl
+map-each {f = f} {g = g} (more {a} {l} e es) = ap (λ b. b ∷ map f l) e ∙ ap (λ t. g a ∷ t) (map-each es)
+
+map-map : {A B C : Type 0} (g : B → C) (f : A → B) (l : List A) → map g (map f l) ≡ map (λ a. g (f a)) l
+map-map g f [] = refl
+map-map g f (a ∷ l) = ap (λ t. g (f a) ∷ t) (map-map g f l)
+
+relink-rename : (g : ℕ → ℕ) (v p f k : Name → ℕ) (c : Cmd Name) → Each (λ w. g (f w) ≡ k w) (cmdCalls c) → relink g (renameCmd v p f c) ≡ renameCmd v p k c
+unfolding relink renameCmd cmdCalls
+relink-rename g v p f k (assign x e) h = refl
+relink-rename g v p f k (ifgoto e n) h = refl
+relink-rename g v p f k (call x w e) (more h hs) = ap (λ (n : ℕ). call (v x) n (renameExpr v e)) h
+relink-rename g v p f k (lookup x e q) h = refl
+relink-rename g v p f k (mutate x e q d) h = refl
+relink-rename g v p f k (dispose x e) h = refl
+relink-rename g v p f k (uSym x j) h = refl
+relink-rename g v p f k (iSym x j) h = refl
+relink-rename g v p f k (return e) h = refl
+relink-rename g v p f k (fail e) h = refl
+relink-rename g v p f k vanish h = refl
+
+relink-proc : (g : ℕ → ℕ) (p f k : Name → ℕ) (r : Proc Name) → Each (λ c. Each (λ w. g (f w) ≡ k w) (cmdCalls c)) (r .body) → relinkProc g (numberProc p f r) ≡ numberProc p k r
+unfolding relinkProc numberProc
+relink-proc g p f k r h =
+    ap (λ (b : List (Cmd ℕ)). record { name = r .name; variables = length (procVars r); body = b })
+    (map-map (relink g) (renameCmd (λ w. placeOf w (procVars r)) p f) (r .body)
+    ∙ map-each (each-to (relink-rename g (λ w. placeOf w (procVars r)) p f k) h))
+
+-- `kq` and `kc` are `kept-procs` and `kept-calls` of specs/Verdict.antt; `Limited` and `right` are the tests behind 5 and 6, not passed
+module _ (s calls procs : List ℕ) (ps : List (Proc Name)) (limited : Limited ps) (right : wrongNames ps ≡ false) (kq : Kept s 16 procs (withNames [] (procNames ps))) (kc : Kept s 16 calls (withNames [] (gather callsOf ps))) where
+  tests : (repeated (procNames ps) ≡ false) × (any (λ f. not (has f (procNames ps))) (gather callsOf ps) ≡ false)
+  unfolding wrongNames
+  tests =
+      let unknown : Bool = any (λ f. not (has f (procNames ps))) (gather callsOf ps) in
+      or-false (repeated (procNames ps)) unknown (or-false (repeated (procNames ps) || unknown) (not (has (bytes "main") (procNames ps))) right .0)
+
+  as-many : length (procNames ps) ≡ length ps
+  unfolding procNames
+  as-many = length-map ps (λ r. r .name)
+
+  few-callees : length (withNames [] (gather callsOf ps)) ≤ 16
+  few-callees = omega (arith, few-distinct (gather callsOf ps) (procNames ps) (tests .1), as-many, limited .fewProcedures)
+
+  all-procs : map (nameAt s) (take (length ps) procs) ≡ procNames ps
+  all-procs =
+      let own = distinct-is (procNames ps) (tests .0) in
+      let e : length ps ≡ min 16 (length (withNames [] (procNames ps))) = omega (arith, ap length own, as-many, limited .fewProcedures) in
+      ap (λ (n : ℕ). map (nameAt s) (take n procs)) e ∙ kq .named ∙ ap (take 16) own ∙ take-all 16 (procNames ps) (omega (arith, as-many, limited .fewProcedures))
+
+  all-calls : map (nameAt s) (take (length (withNames [] (gather callsOf ps))) calls) ≡ withNames [] (gather callsOf ps)
+  all-calls =
+      let e : length (withNames [] (gather callsOf ps)) ≡ min 16 (length (withNames [] (gather callsOf ps))) = omega (arith, few-callees) in
+      ap (λ (n : ℕ). map (nameAt s) (take n calls)) e ∙ kc .named ∙ take-all 16 (withNames [] (gather callsOf ps)) few-callees
+
+  callee-named : (w : Name) → has w (withNames [] (gather callsOf ps)) ≡ true → nameAt s (getD calls (placeOf w (withNames [] (gather callsOf ps))) 0) ≡ w
+  callee-named w h =
+      let fs = withNames [] (gather callsOf ps) in
+      let k = placeOf w fs in
+      let low : k < length fs = placeOf-below w fs h in
+      ap (nameAt s) (sym (getD-take (length fs) calls k 0 low))
+      ∙ sym (List·getD-map (nameAt s) (take (length fs) calls) k 0)
+      ∙ ap (λ (l : List Name). getD l k (nameAt s 0)) all-calls
+      ∙ name-at w fs (nameAt s 0) low
+
+  callee-is : (w : Name) → has w (withNames [] (gather callsOf ps)) ≡ true → calleeIn s calls procs (length ps) (numberIn 16 (withNames [] (gather callsOf ps)) w) ≡ placeOf w (procNames ps)
+  unfolding calleeIn numberIn
+  callee-is w h =
+      ap (λ (l : List Name). placeOf (nameAt s (getD calls (placeOf w l) 0)) (map (nameAt s) (take (length ps) procs))) (take-all 16 (withNames [] (gather callsOf ps)) few-callees)
+      ∙ ap (λ (v : Name). placeOf v (map (nameAt s) (take (length ps) procs))) (callee-named w h)
+      ∙ ap (placeOf w) all-procs
+
+  each-called : Each (λ r. Each (λ c. Each (λ w. has w (withNames [] (gather callsOf ps)) ≡ true) (cmdCalls c)) (r .body)) ps
+  each-called = each-to (λ r. each-gather cmdCalls (r .body)) (each-gather callsOf ps (withNames-has [] (gather callsOf ps)))
+
+  pub linked-is : map (relinkProc (calleeIn s calls procs (length ps))) (map (procOf (properties ps) (withNames [] (gather callsOf ps))) ps) ≡ numberProgram ps .procedures
+  unfolding numberProgram
+  linked-is =
+      map-map (relinkProc g) (procOf (properties ps) fs) ps
+      ∙ map-each (each-to (λ r h. ap (relinkProc g) (proc-is (properties ps) fs r (h .0) (limited .fewProperties)) ∙ relink-proc g number (numberIn 16 fs) (λ w. placeOf w (procNames ps)) r (each-to (λ c. each-to callee-is) (h .1))) (each-both (limited .fewVariables) each-called))
+    where
+      fs : List Name
+      fs = withNames [] (gather callsOf ps)
+
+      g : ℕ → ℕ
+      g = calleeIn s calls procs (length ps)
+
+      number : Name → ℕ
+      number w = placeOf w (properties ps)
