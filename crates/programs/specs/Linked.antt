@@ -1,6 +1,6 @@
 -- Linking: a call's callee, stored by its number in the table of callees, becomes the callee's place among the procedures. Assumes nothing.
 use Prim.Native.Nat.{ℕ, zero, suc, _+_, _*_, _-_, _≤_, _<_, min}
-use mathlib.Core.Path.{_≡_, refl, sym, ap, _∙_, subst}
+use mathlib.Core.Path.{_≡_, refl, sym, ap, _∙_}
 use mathlib.Core.Bool.{Bool, true, false, not, _||_}
 use mathlib.Core.List.{List, [], _∷_, _++_, map, map-append}
 use native.Mathlib.Omega.{arith}
@@ -18,9 +18,9 @@ use Rattle.names.specs.Distinct.{distinct-is, few-distinct}
 use Rattle.names.specs.Tables.{Kept, numberIn}
 use Rattle.code.specs.Code.{exprWords, cmdNodes, cmdWords, commandWords, procedureWords}
 use Rattle.code.specs.WellFormed.{Each, none, more}
-use Rattle.code.specs.Accepted.{Limited, Named, names-kept}
+use Rattle.code.specs.Accepted.{Limited}
 use Rattle.code.specs.Accepted.Lists.{or-false, each-to, each-both, each-gather}
-use Rattle.code.specs.Accepted.Places.{Known, placeOf-below, withNames-has}
+use Rattle.code.specs.Accepted.Places.{placeOf-below, withNames-has}
 use Rattle.reader.specs.Stores.{sets-append, sets-swap, set-sets}
 use Rattle.programs.specs.Lists.{words-length, bodyStored}
 use Rattle.programs.specs.Words.{procOf, bodies, programStored, three-words, proc-is}
@@ -272,7 +272,8 @@ relink-proc g p f k r h =
     (map-map (relink g) (renameCmd (λ w. placeOf w (procVars r)) p f) (r .body)
     ∙ map-each (each-to (relink-rename g (λ w. placeOf w (procVars r)) p f k) h))
 
--- `kq` and `kc` are `kept-procs` and `kept-calls` of specs/Verdict.antt; `Limited` and `right` are the tests behind 5 and 6, not passed
+-- Where refusals 5 and 6 are not given: `limited` is `limits-kept` (crates/code/specs/Accepted.antt) of `overLimits ps ≡ false`; `kq` and `kc`
+-- are `kept-procs` and `kept-calls` of specs/Verdict.antt, so `Tells .names` and `Tells .calls` from empty tables.
 module _ (s calls procs : List ℕ) (ps : List (Proc Name)) (limited : Limited ps) (right : wrongNames ps ≡ false) (kq : Kept s 16 procs (withNames [] (procNames ps))) (kc : Kept s 16 calls (withNames [] (gather callsOf ps))) where
   tests : (repeated (procNames ps) ≡ false) × (any (λ f. not (has f (procNames ps))) (gather callsOf ps) ≡ false)
   unfolding wrongNames
