@@ -5,3 +5,4 @@ pub mod Procedures
 pub mod Linked
 pub mod Verdict
 pub mod Joined
+pub mod Reads
