@@ -1,4 +1,5 @@
-// The refusal of a text: what was counted and flagged while it was read, tested in the order of document 01.
+// The refusal of a text: what was counted and flagged while it was read, tested in the order of document 01; and the whole of reading one,
+// which promises the program's words (crates/programs/specs/Reads.antt).
 ghost use mathlib.Core.Path.{_≡_};
 ghost use mathlib.Core.List.{List, []};
 ghost use mathlib.Core.Bool.{_||_, true, false};
