@@ -12,7 +12,8 @@ use Rattle.gil.specs.Text.{same}
 use Rattle.gil.specs.Tree.{Name}
 use Rattle.gil.specs.Names.{any, has, withName, withNames, repeated}
 use Rattle.tokens.specs.Bools.{no-false}
-use Rattle.names.specs.Lists.{same-is, same-self, withName-old, withName-new}
+use Rattle.tokens.specs.Words.{same-is}
+use Rattle.names.specs.Lists.{same-self, withName-old, withName-new}
 
 -- tests by cases
 or-assoc : (a b c : Bool) → a || b || c ≡ a || (b || c)

@@ -12,14 +12,7 @@ use Rattle.gil.specs.Text.{same}
 use Rattle.gil.specs.Tree.{Name}
 use Rattle.gil.specs.Names.{any, has, placeOf, withName, withNames}
 use Rattle.tokens.specs.Bools.{no-false, both}
-
--- two names that are the same are one name
-pub same-is : (a b : Name) → same a b ≡ true → a ≡ b
-unfolding same
-same-is [] [] e = refl
-same-is [] (b ∷ t) e = no-false e refl
-same-is (a ∷ s) [] e = no-false e refl
-same-is (a ∷ s) (b ∷ t) e = let parts = both (eqb a b) (same s t) e in rw (eqb-true a b (parts .0), same-is s t (parts .1))
+use Rattle.tokens.specs.Words.{same-is}
 
 pub place-le : (w : Name) (ns : List Name) → placeOf w ns ≤ length ns
 unfolding placeOf

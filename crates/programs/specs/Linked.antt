@@ -13,7 +13,7 @@ use Rattle.gil.specs.Text.{bytes, same}
 use Rattle.gil.specs.Tree.{Cmd, assign, ifgoto, call, lookup, mutate, dispose, uSym, iSym, return, fail, vanish, Proc, Name}
 use Rattle.gil.specs.Names.{any, gather, has, placeOf, withNames, repeated, cmdCalls, procVars, properties, procNames, wrongNames, renameExpr, renameCmd, Procedure, numberProc, numberProgram}
 use Rattle.tokens.specs.Seen.{nameAt}
-use Rattle.names.specs.Lists.{same-is}
+use Rattle.tokens.specs.Words.{same-is}
 use Rattle.names.specs.Distinct.{distinct-is, few-distinct}
 use Rattle.names.specs.Tables.{Kept, numberIn}
 use Rattle.code.specs.Code.{exprWords, cmdNodes, cmdWords, commandWords, procedureWords}

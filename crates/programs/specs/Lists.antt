@@ -230,7 +230,7 @@ module _ {s t₀ t t′ p₀ p p′ k₀ k k′ code₀ code code′ : List ℕ}
       past (fails e) l = e
       past (goes e l w q) v = absurd (omega arith)
 
-  module _ (h : n ≤ length s) {kind v m : ℕ} (f : Found s n (lexeme s n) kind v m) {jump′ : ℕ} (hj : jump′ ≡ max jump j) where
+  module _ (h : n ≤ length s) {jump′ : ℕ} (hj : jump′ ≡ max jump j) where
     it : Item s (suc i) (Does s t t′ p p′ k k′ code code′ (first + count) out out′ j ends) (command s i) n
     it = was-read g h
 
@@ -277,17 +277,17 @@ module _ {s t₀ t t′ p₀ p p′ k₀ k k′ code₀ code code′ : List ℕ}
           words = more-words;
         }
 
-    pub turn-last : kind ≡ 125 → Goes s (suc at) (Lists s t₀ t′ p₀ p′ k₀ k′ code₀ code′ first out₀ out′ (count + 1) jump′ ends) (commands s at) n
+    pub turn-last : isMark 125 (lexeme s n .token) ≡ true → Goes s (suc at) (Lists s t₀ t′ p₀ p′ k₀ k′ code₀ code′ first out₀ out′ (count + 1) jump′ ends) (commands s at) n
     turn-last e =
         subst (λ (r : Read (List (Cmd Name))). Goes s (suc at) (Lists s t₀ t′ p₀ p′ k₀ k′ code₀ code′ first out₀ out′ (count + 1) jump′ ends) r n)
-        (sym (u .rest ∙ ap (join (u .so)) (here ∙ list-last s command (isMark 125) (commandsOf (length s - count)) i (it .item) (it .is) (mark-is 125 (f .seen) (omega arith) ∙ eq-eqb 125 kind (sym e)))))
+        (sym (u .rest ∙ ap (join (u .so)) (here ∙ list-last s command (isMark 125) (commandsOf (length s - count)) i (it .item) (it .is) e)))
         (unfold join in goes {m = n} refl (omega (arith, it .after, u .behind)) h lists-last)
 
-    pub turn-more : (kind ≡ 125 → ⊥) → Turn s t₀ t′ p₀ p′ k₀ k′ code₀ code′ at first out₀ out′ n (count + 1) jump′
+    pub turn-more : isMark 125 (lexeme s n .token) ≡ false → Turn s t₀ t′ p₀ p′ k₀ k′ code₀ code′ at first out₀ out′ n (count + 1) jump′
     turn-more e =
         record {
           so = u .so ++ (it .item ∷ []);
-          rest = u .rest ∙ ap (join (u .so)) (here ∙ list-more s command (isMark 125) (commandsOf (length s - count)) i (it .item) (it .is) (mark-is 125 (f .seen) (omega arith) ∙ ne-eqb 125 kind (λ z. e (sym z)))) ∙ join-join (u .so) (it .item ∷ []) (commandsOf (length s - count) s n) ∙ fuel;
+          rest = u .rest ∙ ap (join (u .so)) (here ∙ list-more s command (isMark 125) (commandsOf (length s - count)) i (it .item) (it .is) e) ∙ join-join (u .so) (it .item ∷ []) (commandsOf (length s - count) s n) ∙ fuel;
           vars = lists-last .vars;
           props = lists-last .props;
           calls = lists-last .calls;

@@ -63,8 +63,7 @@ fn body_of(
                 ends: false,
             };
         }
-        let t = lexemes::token(text, i);
-        if t.kind == 125 {
+        if lexemes::past_mark(text, i, b'}') != 0 {
             return Body {
                 next: i,
                 out: o,
@@ -103,17 +102,17 @@ fn procedure_of(
 {
     let f = forms::name(text, at);
     names::intern(text, f.value, procs, 16);
-    let a = forms::mark(text, f.next, 40);
+    let a = forms::mark(text, f.next, b'(');
     let x = forms::name(text, a);
-    let b = forms::mark(text, x.next, 41);
-    let c = forms::mark(text, b, 123);
+    let b = forms::mark(text, x.next, b')');
+    let c = forms::mark(text, b, b'{');
     let mut vars = [0u32; 33];
     names::intern(text, x.value, &mut vars, 16);
     let d = body_of(text, c, first, &mut vars, props, calls, code, out);
     let variables = vars[32];
     store::store_procedure(code, number, first as u32, variables, d.count as u32);
     Declared {
-        next: forms::mark(text, d.next, 125),
+        next: forms::mark(text, d.next, b'}'),
         out: d.out,
         count: d.count,
         wide: variables > 16,

@@ -68,25 +68,25 @@ unfolding ahead _>>=_ after
 ahead-step s n g = refl
 
 -- a name after `v :=`
-module _ {s : List ℕ} (v : Name) {at n k u i : ℕ} (place : ℕ) (gn : Goes s (suc at) (λ w. nameAt s place ≡ w) (theName s at) n) (f : Found s n (lexeme s n) k u i) where
+module _ {s : List ℕ} (v : Name) {at n : ℕ} (place : ℕ) (gn : Goes s (suc at) (λ w. nameAt s place ≡ w) (theName s at) n) where
   next-is : (w : Name) (b : Bool) → isMark 40 (lexeme s n .token) ≡ b → (ahead >>= λ t. callOrVar v w (isMark 40 t)) s n ≡ callOrVar v w b s n
   next-is w b e = ahead-step s n (λ t. callOrVar v w (isMark 40 t)) ∙ ap (λ (c : Bool). callOrVar v w c s n) e
 
-  pub named-call : {P : Cmd Name → Type 0} {m : ℕ} → k ≡ 40 → Goes s (suc n) P (callOf v (nameAt s place) s n) m → Goes s (suc at) P (named v s at) m
+  pub named-call : {P : Cmd Name → Type 0} {m : ℕ} → isMark 40 (lexeme s n .token) ≡ true → Goes s (suc n) P (callOf v (nameAt s place) s n) m → Goes s (suc at) P (named v s at) m
   unfolding named _>>=_
   named-call {P} {m} e g =
       first (λ w. ahead >>= λ t. callOrVar v w (isMark 40 t)) gn (λ z. stuck g z)
-      (λ w wn q. weaken (omega arith) (subst (λ (r : Read (Cmd Name)). Goes s (suc n) P r m) (sym (next-is w true (mark-is 40 (f .seen) (omega arith) ∙ eq-eqb 40 k (sym e)) ∙ call-it w q)) g))
+      (λ w wn q. weaken (omega arith) (subst (λ (r : Read (Cmd Name)). Goes s (suc n) P r m) (sym (next-is w true e ∙ call-it w q)) g))
     where
       call-it : (w : Name) → nameAt s place ≡ w → callOrVar v w true s n ≡ callOf v (nameAt s place) s n
       call-it w q = unfold callOrVar in ap (λ (x : Name). callOf v x s n) (sym q)
 
-  pub named-var : {P : Cmd Name → Type 0} {m : ℕ} → (k ≡ 40 → ⊥) → m ≡ n → ((w : Name) → nameAt s place ≡ w → P (assign v (var w))) → Goes s (suc at) P (named v s at) m
+  pub named-var : {P : Cmd Name → Type 0} {m : ℕ} → isMark 40 (lexeme s n .token) ≡ false → m ≡ n → ((w : Name) → nameAt s place ≡ w → P (assign v (var w))) → Goes s (suc at) P (named v s at) m
   unfolding named _>>=_
   named-var {P} {m} e z h =
       subst (λ (j : ℕ). Goes s (suc at) P (named v s at) j) (sym z)
       (first (λ w. ahead >>= λ t. callOrVar v w (isMark 40 t)) gn (λ z. z)
-      (λ w wn q. subst (λ (r : Read (Cmd Name)). Goes s n P r n) (sym (next-is w false (mark-is 40 (f .seen) (omega arith) ∙ ne-eqb 40 k (λ d. e (sym d))) ∙ var-it w)) (ended (assign v (var w)) wn (h w q))))
+      (λ w wn q. subst (λ (r : Read (Cmd Name)). Goes s n P r n) (sym (next-is w false e ∙ var-it w)) (ended (assign v (var w)) wn (h w q))))
     where
       var-it : (w : Name) → callOrVar v w false s n ≡ done (assign v (var w)) s n
       var-it w = unfold callOrVar in refl

@@ -13,6 +13,7 @@ use Rattle.gil.specs.Tree.{Op, plus, minus, equal, less, and, or, Expr, num, bo
 use Rattle.gil.specs.Reading.{Read, faulty, read, Reader, after, _>>=_, done, nothing, token, ahead, isMark, isEnded, isBecomes, so, theMark, theBecomes, nameOf, asWord, theName, numberOf, theNumber, propertyOf, theProperty, opMark, opKey, opWord, opOf, theOp, negation, bracketed, exprKey, exprWord, exprFrom, exprDeep}
 use Rattle.code.specs.Code as Code
 use Rattle.tokens.specs.Words.{Stands, aName, aNumber, aUSite, anISite, aFault, aKey, keyKind}
+use Rattle.tokens.specs.Marks.{Marked}
 use Rattle.tokens.specs.Seen.{nameAt, Seen, aWord, aProperty, becoming, aMark, theEnd, Found}
 use Rattle.reader.specs.Goes.{Goes, fails, goes, anything, weaken}
 
@@ -265,10 +266,6 @@ module _ {s : List ℕ} {at k v n : ℕ} (f : Found s at (lexeme s at) k v n) wh
   unfolding theMark so
   mark-goes b h e = reads (λ t. so (isMark b t)) tt (λ z. omega arith) (ap so (mark-is b (f .seen) h ∙ eq-eqb b k (sym e))) tt
 
-  pub mark-fails : {m : ℕ} (b : ℕ) → b < 256 → (k ≡ b → ⊥) → m ≡ suc (length s) → Goes s (suc at) anything (theMark b s at) m
-  unfolding theMark so
-  mark-fails b h e z = faults (λ t. so (isMark b t)) z (ap so (mark-is b (f .seen) h ∙ ne-eqb b k (λ d. e (sym d))))
-
   pub becomes-goes : k ≡ 262 → Goes s (suc at) anything (theBecomes s at) n
   unfolding theBecomes so
   becomes-goes e = reads (λ t. so (isBecomes t)) tt (λ z. omega arith) (ap so (becomes-is (f .seen) ∙ eq-eqb k 262 e)) tt
@@ -312,3 +309,15 @@ module _ {s : List ℕ} {at k v n : ℕ} (f : Found s at (lexeme s at) k v n) wh
     where
       none : opBy k ≡ nothing
       none = unfold opBy opByKey in rw (ne-eqb k 43 a, opBy) (rw (ne-eqb k 45 b) (rw (ne-eqb k 61 c) (rw (ne-eqb k 60 d) (rw (ne-eqb k 279 g, opByKey) (rw (ne-eqb k 280 h))))))
+
+-- a mark by its byte
+module _ {s : List ℕ} {at b r : ℕ} (m : Marked s at b r) where
+  pub mark-read : b < 256 → (r ≡ 0 → ⊥) → Goes s (suc at) anything (theMark b s at) r
+  mark-read h n = mark-goes (m .found n) b h refl
+
+  pub mark-there : b < 256 → (r ≡ 0 → ⊥) → isMark b (lexeme s at .token) ≡ true
+  mark-there h n = mark-is b (m .found n .seen) h ∙ eq-eqb b b refl
+
+  pub mark-missed : {n : ℕ} → r ≡ 0 → n ≡ suc (length s) → Goes s (suc at) anything (theMark b s at) n
+  unfolding theMark so token _>>=_ after nothing
+  mark-missed {n} e z = subst (λ (x : Read (Unit {0})). Goes s (suc at) anything x n) (sym (ap (λ (t : Bool). so t s (lexeme s at .next)) (m .other e))) (fails z)

@@ -65,11 +65,11 @@ fn call_of(
     requires { do ⌜ ((← ⟦text.len()⟧) ≤ 16384) × (out ≤ 18995) ⌝ }
     ensures { λ r. ⌜ ((v : Name) (p : List ℕ) → Goes (now (text .entry)) (suc at) (Sets (now (text .entry)) v (now (vars .entry)) (now (vars .exit)) p p (now (calls .entry)) (now (calls .exit)) (now (code .entry)) (now (code .exit)) out (r .out) (r .kind) (r .place) (r .other) (r .second)) (callOf v (nameAt (now (text .entry)) callee) (now (text .entry)) at) (r .next)) × (r .out ≤ 18995) ⌝ }
 {
-    let a = forms::mark(text, at, 40);
+    let a = forms::mark(text, at, b'(');
     let f = names::intern(text, callee, calls, 16);
     let e = exprs::expr(text, a, 8, vars, code, out);
     Form {
-        next: forms::mark(text, e.next, 41),
+        next: forms::mark(text, e.next, b')'),
         out: e.out,
         kind: 3,
         place: out as u32,
@@ -90,15 +90,15 @@ fn lookup_of(
     requires { do ⌜ ((← ⟦text.len()⟧) ≤ 16384) × (out ≤ 18995) ⌝ }
     ensures { λ r. ⌜ ((v : Name) (k : List ℕ) → Goes (now (text .entry)) (suc at) (Sets (now (text .entry)) v (now (vars .entry)) (now (vars .exit)) (now (props .entry)) (now (props .exit)) k k (now (code .entry)) (now (code .exit)) out (r .out) (r .kind) (r .place) (r .other) (r .second)) (lookupOf v (now (text .entry)) at) (r .next)) × (r .out ≤ 18995) ⌝ }
 {
-    let a = forms::mark(text, at, 40);
-    let b = forms::mark(text, a, 91);
+    let a = forms::mark(text, at, b'(');
+    let b = forms::mark(text, a, b'[');
     let e = exprs::expr(text, b, 8, vars, code, out);
-    let c = forms::mark(text, e.next, 44);
+    let c = forms::mark(text, e.next, b',');
     let p = forms::property(text, c);
     let q = names::intern(text, p.value, props, 32);
-    let d = forms::mark(text, p.next, 93);
+    let d = forms::mark(text, p.next, b']');
     Form {
-        next: forms::mark(text, d, 41),
+        next: forms::mark(text, d, b')'),
         out: e.out,
         kind: 4,
         place: out as u32,
@@ -119,17 +119,17 @@ fn mutate_of(
     requires { do ⌜ ((← ⟦text.len()⟧) ≤ 16384) × (out ≤ 18995) ⌝ }
     ensures { λ r. ⌜ ((v : Name) (k : List ℕ) → Goes (now (text .entry)) (suc at) (Sets (now (text .entry)) v (now (vars .entry)) (now (vars .exit)) (now (props .entry)) (now (props .exit)) k k (now (code .entry)) (now (code .exit)) out (r .out) (r .kind) (r .place) (r .other) (r .second)) (mutateOf v (now (text .entry)) at) (r .next)) × (r .out ≤ 18995) ⌝ }
 {
-    let a = forms::mark(text, at, 40);
-    let b = forms::mark(text, a, 91);
+    let a = forms::mark(text, at, b'(');
+    let b = forms::mark(text, a, b'[');
     let e = exprs::expr(text, b, 8, vars, code, out);
-    let c = forms::mark(text, e.next, 44);
+    let c = forms::mark(text, e.next, b',');
     let p = forms::property(text, c);
     let q = names::intern(text, p.value, props, 32);
-    let d = forms::mark(text, p.next, 44);
+    let d = forms::mark(text, p.next, b',');
     let w = exprs::expr(text, d, 8, vars, code, e.out);
-    let f = forms::mark(text, w.next, 93);
+    let f = forms::mark(text, w.next, b']');
     Form {
-        next: forms::mark(text, f, 41),
+        next: forms::mark(text, f, b')'),
         out: w.out,
         kind: 5,
         place: out as u32,
@@ -149,10 +149,10 @@ fn dispose_of(
     requires { do ⌜ ((← ⟦text.len()⟧) ≤ 16384) × (out ≤ 18995) ⌝ }
     ensures { λ r. ⌜ ((v : Name) (p k : List ℕ) → Goes (now (text .entry)) (suc at) (Sets (now (text .entry)) v (now (vars .entry)) (now (vars .exit)) p p k k (now (code .entry)) (now (code .exit)) out (r .out) (r .kind) (r .place) (r .other) (r .second)) (disposeOf v (now (text .entry)) at) (r .next)) × (r .out ≤ 18995) ⌝ }
 {
-    let a = forms::mark(text, at, 40);
+    let a = forms::mark(text, at, b'(');
     let e = exprs::expr(text, a, 8, vars, code, out);
     Form {
-        next: forms::mark(text, e.next, 41),
+        next: forms::mark(text, e.next, b')'),
         out: e.out,
         kind: 6,
         place: out as u32,
@@ -174,8 +174,7 @@ fn named_form(
     ensures { λ r. ⌜ ((v : Name) (p : List ℕ) → Goes (now (text .entry)) (suc at) (Sets (now (text .entry)) v (now (vars .entry)) (now (vars .exit)) p p (now (calls .entry)) (now (calls .exit)) (now (code .entry)) (now (code .exit)) out (r .out) (r .kind) (r .place) (r .other) (r .second)) (named v (now (text .entry)) at) (r .next)) × (r .out ≤ 18995) ⌝ }
 {
     let f = forms::name(text, at);
-    let t = lexemes::token(text, f.next);
-    if t.kind == 40 {
+    if lexemes::past_mark(text, f.next, b'(') != 0 {
         return call_of(text, f.next, f.value, vars, calls, code, out);
     }
     let x = names::intern(text, f.value, vars, 16);
@@ -364,7 +363,7 @@ pub fn read_command(
 {
     let c = bare_command(text, at, n, vars, props, calls, code, out);
     Step {
-        next: forms::mark(text, c.next, 59),
+        next: forms::mark(text, c.next, b';'),
         out: c.out,
         jump: c.jump,
         ends: c.ends,

@@ -86,7 +86,7 @@ fn operation(
     store::store_node(code, out, o.value, store::between(out, a.out));
     let b = expr(text, o.next, depth, vars, code, a.out);
     Got {
-        next: forms::mark(text, b.next, 41),
+        next: forms::mark(text, b.next, b')'),
         out: b.out,
     }
 }

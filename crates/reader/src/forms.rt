@@ -3,6 +3,8 @@ ghost use mathlib.Core.Path.{_≡_};
 ghost use Prim.Native.Nat.{suc, _≤_, _<_};
 ghost use lib.ListN.{length};
 ghost use Rattle.gil.specs.Reading.{theMark, theBecomes, theName, theProperty, theNumber, theOp};
+ghost use mathlib.Core.Bool.{true};
+ghost use Rattle.tokens.specs.Marks.{lone};
 ghost use Rattle.tokens.specs.Seen.{nameAt};
 ghost use Rattle.code.specs.Code.{opWord};
 ghost use Rattle.reader.specs.Goes.{Goes, anything};
@@ -23,15 +25,16 @@ pub fn stop(text: &[u8]) -> usize
     text.len() + 1
 }
 
-pub fn mark(text: &[u8], at: usize, b: u32) -> usize
-    requires { do ⌜ ((← ⟦text.len()⟧) ≤ 16384) × (b < 256) ⌝ }
+// a mark that no other token starts with
+pub fn mark(text: &[u8], at: usize, b: u8) -> usize
+    requires { do ⌜ ((← ⟦text.len()⟧) ≤ 16384) × (lone b ≡ true) ⌝ }
     ensures { λ r. ⌜ Goes (now (text .entry)) (suc at) anything (theMark b (now (text .entry)) at) r ⌝ }
 {
-    let t = lexemes::token(text, at);
-    if t.kind == b {
-        return t.next;
+    let next = lexemes::past_mark(text, at, b);
+    if next == 0 {
+        return stop(text);
     }
-    stop(text)
+    next
 }
 
 pub fn becomes(text: &[u8], at: usize) -> usize

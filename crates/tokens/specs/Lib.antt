@@ -3,3 +3,4 @@ pub mod Classes
 pub mod Scan
 pub mod Words
 pub mod Seen
+pub mod Marks

@@ -10,7 +10,7 @@ use borrow.Author.Tests.{eq-eqb, ne-eqb, le-leb, lt-leb, lt-ltb, le-ltb, leb-tru
 use lib.ListN.{length, take, drop, getD, length-take, length-drop, drop-of-length-le}
 use lib.Seq.{drop-cons, take-all}
 use lib.Dec.{leb, ltb, eqb}
-use Rattle.tokens.specs.Bools.{both}
+use Rattle.tokens.specs.Bools.{both, no-false}
 use Rattle.gil.specs.Text.{Key, kIfgoto, kReturn, kFail, kVanish, kTrue, kFalse, kNot, kAnd, kOr, kLookup, kMutate, kDispose, Word, name, number, key, uSite, iSite, fault, reservedWords, find, same, digit, allDigits, decimalFrom, numeral, numbered, plainZero, bytes, letter, symbol, uSymPrefix, iSymPrefix, identifier, identified, wordOf}
 
 -- the reserved words by number
@@ -125,9 +125,9 @@ pub worth-end : (limit n : ℕ) (ds : List ℕ) (i : ℕ) → length ds ≤ i �
 unfolding worth allDigits decimalFrom
 worth-end limit n ds i h l = rw (drop-of-length-le ds h) (rw (le-leb n limit l, worth))
 
-none-of : (a : Bool) (limit n : ℕ) → limit < n → _≡_ {A = ℕ} 4294967296 (elim (a && leb n limit) [ true ↦ n | false ↦ 4294967296 ])
-none-of true limit n h = rw (lt-leb n limit h)
-none-of false limit n h = refl
+no-word : (a : Bool) (limit n : ℕ) → limit < n → _≡_ {A = ℕ} 4294967296 (elim (a && leb n limit) [ true ↦ n | false ↦ 4294967296 ])
+no-word true limit n h = rw (lt-leb n limit h)
+no-word false limit n h = refl
 
 module _ (limit n : ℕ) (ds : List ℕ) (i : ℕ) (h : i < length ds) where
   pub worth-bad : digit (getD ds i 0) ≡ false → 4294967296 ≡ worth limit n (drop i ds)
@@ -142,7 +142,7 @@ module _ (limit n : ℕ) (ds : List ℕ) (i : ℕ) (h : i < length ds) where
   worth-over e l = over ∙ sym (worth-more e)
     where
       over : 4294967296 ≡ worth limit (n * 10 + (getD ds i 0 - 48)) (drop (i + 1) ds)
-      over = unfold worth in none-of (allDigits (drop (i + 1) ds)) limit (decimalFrom (n * 10 + (getD ds i 0 - 48)) (drop (i + 1) ds)) (omega (arith, decimal-grows (n * 10 + (getD ds i 0 - 48)) (drop (i + 1) ds)))
+      over = unfold worth in no-word (allDigits (drop (i + 1) ds)) limit (decimalFrom (n * 10 + (getD ds i 0 - 48)) (drop (i + 1) ds)) (omega (arith, decimal-grows (n * 10 + (getD ds i 0 - 48)) (drop (i + 1) ds)))
 
 -- a numeral is its worth, but for a leading zero
 pub numeral-empty : (limit : ℕ) (ds : List ℕ) → length ds ≡ 0 → numeral limit ds ≡ option 4294967296
@@ -239,6 +239,101 @@ table-at = each (λ k. take (getD lengths k 0) (drop (8 * k) table) ≡ reserved
 
 pub table-is : (k : ℕ) → k < 12 → take (8 * k + getD lengths k 0 - 8 * k) (drop (8 * k) table) ≡ reserved k
 table-is k h = let e : 8 * k + getD lengths k 0 - 8 * k ≡ getD lengths k 0 = omega arith in rw e (table-at k h)
+
+-- the first letter and the length leave one reserved word to be looked up
+unfoldable pub startedBy : ℕ → ℕ
+startedBy b =
+    elim (eqb b 105) [
+      | true ↦ 0
+      | false ↦ elim (eqb b 114) [
+        | true ↦ 1
+        | false ↦ elim (eqb b 102) [
+          | true ↦ 2
+          | false ↦ elim (eqb b 118) [
+            | true ↦ 3
+            | false ↦
+                elim (eqb b 116) [
+                  | true ↦ 4
+                  | false ↦ elim (eqb b 110) [
+                    | true ↦ 6
+                    | false ↦ elim (eqb b 97) [
+                      | true ↦ 7
+                      | false ↦ elim (eqb b 111) [
+                        | true ↦ 8
+                        | false ↦
+                            elim (eqb b 108) [ true ↦ 9 | false ↦ elim (eqb b 109) [ true ↦ 10 | false ↦ elim (eqb b 100) [ true ↦ 11 | false ↦ 12 ] ] ]
+                      ]
+                    ]
+                  ]
+                ]
+          ]
+        ]
+      ]
+    ]
+
+unfoldable pub candidateOf : ℕ → ℕ → ℕ
+candidateOf b n = elim (eqb b 102 && eqb n 5) [ true ↦ 5 | false ↦ startedBy b ]
+
+off : {t : Bool} (x : ℕ) {y : ℕ} → t ≡ false → elim t [ true ↦ x | false ↦ y ] ≡ y
+off x e = rw e
+
+pub started-none : (b : ℕ) → (b ≡ 105 → ⊥) → (b ≡ 114 → ⊥) → (b ≡ 102 → ⊥) → (b ≡ 118 → ⊥) → (b ≡ 116 → ⊥) → (b ≡ 110 → ⊥) → (b ≡ 97 → ⊥) → (b ≡ 111 → ⊥) → (b ≡ 108 → ⊥) → (b ≡ 109 → ⊥) → (b ≡ 100 → ⊥) → 12 ≡ startedBy b
+unfolding startedBy
+started-none b h105 h114 h102 h118 h116 h110 h97 h111 h108 h109 h100 = sym (off 0 (ne-eqb b 105 h105) ∙ off 1 (ne-eqb b 114 h114) ∙ off 2 (ne-eqb b 102 h102) ∙ off 3 (ne-eqb b 118 h118) ∙ off 4 (ne-eqb b 116 h116) ∙ off 6 (ne-eqb b 110 h110) ∙ off 7 (ne-eqb b 97 h97) ∙ off 8 (ne-eqb b 111 h111) ∙ off 9 (ne-eqb b 108 h108) ∙ off 10 (ne-eqb b 109 h109) ∙ off 11 (ne-eqb b 100 h100))
+
+pub candidate-other : (b n : ℕ) → (b ≡ 102 → ⊥) → startedBy b ≡ candidateOf b n
+unfolding candidateOf
+candidate-other b n h = rw (ne-eqb b 102 h, candidateOf)
+
+pub candidate-f : (b n r : ℕ) → b ≡ 102 → r ≡ elim (eqb n 5) [ true ↦ 5 | false ↦ 2 ] → r ≡ candidateOf b n
+unfolding candidateOf startedBy
+candidate-f b n r e f = rw e f
+
+candidate-is : (k : ℕ) → k < 12 → candidateOf (getD (reserved k) 0 0) (length (reserved k)) ≡ k
+unfolding candidateOf startedBy reserved reservedWords bytes
+candidate-is = each (λ k. candidateOf (getD (reserved k) 0 0) (length (reserved k)) ≡ k) refl refl refl refl refl refl refl refl refl refl refl refl
+
+found-is : (k : ℕ) → k < 12 → find (reserved k) reservedWords ≡ keyAt k
+unfolding find same reserved reservedWords bytes keyAt keyOf
+found-is = each (λ k. find (reserved k) reservedWords ≡ keyAt k) refl refl refl refl refl refl refl refl refl refl refl refl
+
+-- two runs that are the same are one run
+pub same-is : (a b : List ℕ) → same a b ≡ true → a ≡ b
+unfolding same
+same-is [] [] e = refl
+same-is [] (b ∷ t) e = no-false e refl
+same-is (a ∷ s) [] e = no-false e refl
+same-is (a ∷ s) (b ∷ t) e = let parts = both (eqb a b) (same s t) e in rw (eqb-true a b (parts .0), same-is s t (parts .1))
+
+module _ (w : List ℕ) where
+  pub key-found : (k : ℕ) → k < 12 → same w (reserved k) ≡ true → find w reservedWords ≡ keyAt k
+  key-found k h e = ap (λ (x : List ℕ). find x reservedWords) (same-is w (reserved k) e) ∙ found-is k h
+
+  -- a run that is a reserved word is its candidate
+  only : (k : ℕ) → k < 12 → same w (reserved k) ≡ true → candidateOf (getD w 0 0) (length w) ≡ k
+  only k h e = ap (λ (x : List ℕ). candidateOf (getD x 0 0) (length x)) (same-is w (reserved k) e) ∙ candidate-is k h
+
+  not-reserved : ((k : ℕ) → k < 12 → same w (reserved k) ≡ false) → (k : ℕ) → k ≤ 12 → find w reservedWords ≡ find w (drop k reservedWords)
+  not-reserved h zero l = refl
+  not-reserved h (suc k) l = not-reserved h k (omega arith) ∙ find-more w k (omega arith) (h k (omega arith)) ∙ ap (λ (n : ℕ). find w (drop n reservedWords)) (add-one k)
+
+  pub key-none : ((k : ℕ) → k < 12 → same w (reserved k) ≡ true → ⊥) → find w reservedWords ≡ keyAt 12
+  key-none h = not-reserved (λ k l. refuted (same w (reserved k)) (h k l)) 12 (omega arith) ∙ find-end w 12 (omega arith) (omega arith)
+    where
+      refuted : (b : Bool) → (b ≡ true → ⊥) → b ≡ false
+      refuted true n = absurd (n refl)
+      refuted false n = refl
+
+  pub no-candidate : 12 ≤ candidateOf (getD w 0 0) (length w) → find w reservedWords ≡ keyAt 12
+  no-candidate h = key-none (λ k l e. let z = only k l e in absurd (omega arith))
+
+  pub another-word : same w (reserved (candidateOf (getD w 0 0) (length w))) ≡ false → find w reservedWords ≡ keyAt 12
+  another-word f = key-none (λ k l e. no-false (ap (λ (j : ℕ). same w (reserved j)) (only k l e) ∙ e) f)
+
+pub key-empty : (w : List ℕ) → length w ≡ 0 → find w reservedWords ≡ keyAt 12
+unfolding find same reservedWords bytes keyAt keyOf
+key-empty [] e = refl
+key-empty (a ∷ w) e = absurd (omega arith)
 
 -- fresh symbols
 numbered-u : (o : Option ℕ) → numbered o (wordFor 258) ≡ numbered o uSite

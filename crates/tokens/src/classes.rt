@@ -21,12 +21,14 @@ pub fn is_digit(b: u8) -> bool
     }
 }
 
-// what stands in a run: letters, digits and underscores
+// what stands in a run: letters, digits and underscores; most are small letters, so these are asked for first
 pub fn in_run(b: u8) -> bool
     ensures { λ r. ⌜ r ≡ inRun b ⌝ }
 {
+    if b >= b'a' {
+        return b <= b'z';
+    }
     match b {
-        b'a'..=b'z' => true,
         b'A'..=b'Z' => true,
         b'0'..=b'9' => true,
         b'_' => true,

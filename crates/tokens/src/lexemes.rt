@@ -4,6 +4,7 @@ ghost use mathlib.Core.Bool.{true};
 ghost use Prim.Native.Nat.{_+_, _*_, _≤_, _<_};
 ghost use lib.ListN.{length, drop, getD};
 ghost use Rattle.gil.specs.Text.{lexeme, tokenFrom, inRun};
+ghost use Rattle.tokens.specs.Marks.{lone, Marked};
 ghost use Rattle.tokens.specs.Seen.{Found};
 use crate::classes;
 use crate::scan;
@@ -132,4 +133,17 @@ pub fn token(text: &[u8], at: usize) -> Lexeme
     ensures { λ r. ⌜ Found (now (text .entry)) at (lexeme (now (text .entry)) at) (r .kind) (r .value) (r .next) ⌝ }
 {
     token_from(text, scan::past_white(text, at))
+}
+
+// The place after the next token where that is the mark `b`, and 0 where it is not. Its byte tells, as no other token starts with it: so no
+// run is read through only to see that it is no such mark.
+pub fn past_mark(text: &[u8], at: usize, b: u8) -> usize
+    requires { ⌜ lone b ≡ true ⌝ }
+    ensures { λ r. ⌜ Marked (now (text .entry)) at b r ⌝ }
+{
+    let i = scan::past_white(text, at);
+    if i >= text.len() {
+        return 0;
+    }
+    if text[i] == b { i + 1 } else { 0 }
 }

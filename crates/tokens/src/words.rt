@@ -4,7 +4,7 @@ ghost use mathlib.Core.List.{List};
 ghost use Prim.Native.Nat.{ℕ, _+_, _≤_, _<_};
 ghost use lib.ListN.{length};
 ghost use Rattle.gil.specs.Text.{find, reservedWords, numeral, numbered, symbol, identifier};
-ghost use Rattle.tokens.specs.Words.{keyAt, reserved, worth, option, Stands, wordFor};
+ghost use Rattle.tokens.specs.Words.{keyAt, reserved, startedBy, candidateOf, worth, option, Stands, wordFor};
 use crate::classes;
 
 // The kinds of words that are not marks; a mark's kind is its byte.
@@ -89,18 +89,48 @@ fn is_reserved(run: &[u8], k: usize) -> bool
     same(run, &WORDS[from..to])
 }
 
+// the first reserved word that starts with a letter, or `KEYS`
+fn started(b: u8) -> usize
+    ensures { λ r. ⌜ (r ≡ startedBy b) × (r ≤ 12) ⌝ }
+{
+    match b {
+        b'i' => 0,
+        b'r' => 1,
+        b'f' => 2,
+        b'v' => 3,
+        b't' => 4,
+        b'n' => 6,
+        b'a' => 7,
+        b'o' => 8,
+        b'l' => 9,
+        b'm' => 10,
+        b'd' => 11,
+        _ => KEYS,
+    }
+}
+
+// the one reserved word that a run of such a first letter and length may be, or `KEYS`: no other need be looked up in the table
+fn candidate(b: u8, length: usize) -> usize
+    ensures { λ r. ⌜ (r ≡ candidateOf b length) × (r ≤ 12) ⌝ }
+{
+    if b != b'f' {
+        return started(b);
+    }
+    if length == 5 { 5 } else { 2 }
+}
+
 // which reserved word the run is, or `KEYS`
 pub fn key(run: &[u8]) -> usize
     ensures { λ r. ⌜ (find (now (run .entry)) reservedWords ≡ keyAt r) × (r ≤ 12) ⌝ }
 {
-    let mut k = 0;
-    while k < KEYS {
-        if is_reserved(run, k) {
-            return k;
-        }
-        k += 1;
+    if run.len() == 0 {
+        return KEYS;
     }
-    k
+    let k = candidate(run[0], run.len());
+    if k == KEYS {
+        return KEYS;
+    }
+    if is_reserved(run, k) { k } else { KEYS }
 }
 
 const NONE: u64 = 4294967296;

@@ -2,6 +2,7 @@
 use Prim.Native.Nat.{ℕ, suc, _≤_, _-_}
 use mathlib.Core.Path.{_≡_, refl}
 use native.Mathlib.Omega.{arith}
+use Rattle.reader.specs.Seeing.{mark-there}
 use borrow.Author.Needs.{needs}
 use lib.ListN.{length}
 use Rattle.programs.specs.Items.{was-read}
@@ -12,7 +13,7 @@ use Rattle.programs.proofs.lists.body_of.Reads as reads
 use Rattle.programs.proofs.lists.body_of.Lts as lts
 use Rattle.programs.proofs.lists.most.Reads as most-reads
 use Rattle.reader.proofs.commands.read_command.Reads as read-command-reads
-use Rattle.tokens.proofs.lexemes.token.Reads as token-reads
+use Rattle.tokens.proofs.lexemes.past_mark.Reads as past-mark-reads
 
 abbrev Inv-loop : tie.InvT-loop
 Inv-loop text at first vars₀ props₀ calls₀ code₀ out i₀ o₀ count₀ jump₀ vars props calls code i o count jump =
@@ -47,20 +48,20 @@ returns : tie.Need-returns Inv-loop μ-loop
 returns c = (turn-fault (c .before .before .before .before .before .before .before .loop .inv .0) (c .before .before .read-command .ensures .0) (c .if1 .taken), c .before .before .read-command .ensures .1, omega (arith, c .before .before .before .before .before .before .before .loop .inv .0 .room, c .before .before .before .before .before .before .before .before .before .pre .0))
 
 -- src/lists.rt:65:13
-token-requires : tie.Need-token-requires Inv-loop μ-loop
-token-requires c κs = c .before .before .before .before .before .before .before .before .before .pre .0
+past-mark-requires : tie.Need-past-mark-requires Inv-loop μ-loop
+past-mark-requires c κs = refl
 
 -- src/lists.rt:67:13
 returns-2 : tie.Need-returns-2 Inv-loop μ-loop
-returns-2 c = (turn-last (c .before .before .before .before .before .before .before .before .before .before .loop .inv .0) (c .before .before .before .before .before .read-command .ensures .0) (c .before .before .before .if1 .left) (c .before .before .token .ensures) (c .before .before .before .before .most .ensures) (c .if2 .taken), c .before .before .before .before .before .read-command .ensures .1, omega (arith, c .before .before .before .before .before .before .before .before .before .before .loop .inv .0 .room, c .before .before .before .before .before .before .before .before .before .before .before .before .pre .0))
+returns-2 c = (turn-last (c .before .before .before .before .before .before .before .before .before .loop .inv .0) (c .before .before .before .before .read-command .ensures .0) (c .before .before .if1 .left) (c .before .before .before .most .ensures) (mark-there (c .before .past-mark .ensures) (omega arith) (c .if2 .taken)), c .before .before .before .before .read-command .ensures .1, omega (arith, c .before .before .before .before .before .before .before .before .before .loop .inv .0 .room, c .before .before .before .before .before .before .before .before .before .before .before .pre .0))
 
 -- src/lists.rt:50:5
 loop-less : tie.Need-loop-less Inv-loop μ-loop
-loop-less c = omega (arith, was-read (c .before .before .before .before .before .read-command .ensures .0) (c .before .before .before .if1 .left) .after, c .before .before .before .if1 .left)
+loop-less c = omega (arith, was-read (c .before .before .before .before .read-command .ensures .0) (c .before .before .if1 .left) .after, c .before .before .if1 .left)
 
 -- src/lists.rt:50:5
 loop-again : tie.Need-loop-again Inv-loop μ-loop
-loop-again c = (turn-more (c .before .before .before .before .before .before .before .before .before .before .loop .inv .0) (c .before .before .before .before .before .read-command .ensures .0) (c .before .before .before .if1 .left) (c .before .before .token .ensures) (c .before .before .before .before .most .ensures) (c .if2 .left), c .before .before .before .before .before .read-command .ensures .1, c .before .before .before .before .before .before .before .before .before .before .loop .inv .2)
+loop-again c = (turn-more (c .before .before .before .before .before .before .before .before .before .loop .inv .0) (c .before .before .before .before .read-command .ensures .0) (c .before .before .if1 .left) (c .before .before .before .most .ensures) (c .before .past-mark .ensures .other (c .if2 .left)), c .before .before .before .before .read-command .ensures .1, c .before .before .before .before .before .before .before .before .before .loop .inv .2)
 
 pub body-of-spec : {M : Type 1} → statement M
 body-of-spec =
@@ -74,7 +75,7 @@ body-of-spec =
     add-count
     most-requires
     returns
-    token-requires
+    past-mark-requires
     returns-2
     loop-less
     loop-again)

@@ -1,4 +1,5 @@
 -- `programs::lists::procedure_of` meets its contract. Assumes nothing.
+use mathlib.Core.Path.{refl}
 use native.Mathlib.Omega.{arith}
 use Rattle.programs.specs.Procedures.{procedure-goes, declares}
 use borrow.Author.Needs.{needs}
@@ -62,7 +63,7 @@ store-procedure-requires c κs = search needs
 
 -- src/lists.rt:116:15
 mark-requires-4 : tie.Need-mark-requires-4
-mark-requires-4 c κs = (c .before .before .before .before .before .before .before .before .before .before .before .before .before .before .before .before .before .before .pre .0, omega arith)
+mark-requires-4 c κs = (c .before .before .before .before .before .before .before .before .before .before .before .before .before .before .before .before .before .before .pre .0, refl)
 
 -- src/lists.rt:90:1
 returns : tie.Need-returns

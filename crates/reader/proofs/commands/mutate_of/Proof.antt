@@ -50,11 +50,11 @@ expr-requires-2 c κs = search needs
 
 -- src/commands.rt:129:9
 mark-requires-5 : tie.Need-mark-requires-5
-mark-requires-5 c κs = (c .before .before .before .before .before .before .before .before .before .before .before .before .before .before .pre .0, omega arith)
+mark-requires-5 c κs = (c .before .before .before .before .before .before .before .before .before .before .before .before .before .before .pre .0, refl)
 
 -- src/commands.rt:131:15
 mark-requires-6 : tie.Need-mark-requires-6
-mark-requires-6 c κs = (c .before .before .before .before .before .before .before .before .before .before .before .before .before .before .before .pre .0, omega arith)
+mark-requires-6 c κs = (c .before .before .before .before .before .before .before .before .before .before .before .before .before .before .before .pre .0, refl)
 
 -- src/commands.rt:134:16
 cast-t22 : tie.Need-cast-t22

@@ -1,6 +1,9 @@
 -- `reader::commands::named_form` meets its contract. Assumes nothing.
 use Rattle.reader.specs.Commands.{named-call, named-var}
 use Rattle.reader.specs.Effects.{sets-plain, wrote-var}
+use Rattle.reader.specs.Seeing.{mark-there}
+use Rattle.tokens.specs.Marks.{lone}
+use native.Mathlib.Omega.{arith}
 use mathlib.Core.Path.{refl, _≡_, subst}
 use mathlib.Core.List.{List}
 use Prim.Native.Nat.{ℕ}
@@ -15,15 +18,15 @@ use Rattle.reader.proofs.commands.call_of.Reads as call-of-reads
 use Rattle.reader.proofs.forms.name.Reads as name-reads
 use Rattle.reader.proofs.store.after_node.Reads as after-node-reads
 use Rattle.reader.proofs.store.store_node.Reads as store-node-reads
-use Rattle.tokens.proofs.lexemes.token.Reads as token-reads
+use Rattle.tokens.proofs.lexemes.past_mark.Reads as past-mark-reads
 
--- src/commands.rt:175:9
+-- src/commands.rt:176:9
 name-requires : tie.Need-name-requires
 name-requires c κs = search needs
 
--- src/commands.rt:176:9
-token-requires : tie.Need-token-requires
-token-requires c κs = search needs
+-- src/commands.rt:177:8
+past-mark-requires : tie.Need-past-mark-requires
+past-mark-requires c κs = refl
 
 -- src/commands.rt:178:9
 call-of-requires : tie.Need-call-of-requires
@@ -31,7 +34,7 @@ call-of-requires c κs = search needs
 
 -- src/commands.rt:178:9
 returns : tie.Need-returns
-returns c = (λ v p. named-call v (c .before .before .before .before .before .before .before .name .result .value) (c .before .before .before .before .before .before .before .name .ensures) (c .before .before .before .before .before .before .token .ensures) (c .before .before .before .before .if1 .taken) (c .call-of .ensures .0 v p), c .call-of .ensures .1)
+returns c = (λ v p. named-call v (c .before .before .before .before .before .before .name .result .value) (c .before .before .before .before .before .before .name .ensures) (mark-there (c .before .before .before .before .before .past-mark .ensures) (omega arith) (c .before .before .before .before .if1 .taken)) (c .call-of .ensures .0 v p), c .call-of .ensures .1)
 
 -- src/commands.rt:180:9
 intern-requires : tie.Need-intern-requires
@@ -53,16 +56,16 @@ after-node-requires c κs = search needs
 cast-t17 : tie.Need-cast-t17
 cast-t17 c = search needs
 
--- src/commands.rt:164:1
+-- src/commands.rt:165:1
 returns-2 : tie.Need-returns-2
-returns-2 c = (λ v p. named-var v (c .before .before .before .before .before .before .before .before .name .result .value) (c .before .before .before .before .before .before .before .before .name .ensures) (c .before .before .before .before .before .before .before .token .ensures) (c .before .before .before .before .before .if1 .left) refl (λ w i. sets-plain (wrote-var (subst (λ (x : List ℕ). Interned (c .before .before .before .before .before .before .before .before .before .before .args .text .now) 16 (c .before .before .before .before .before .before .before .before .before .before .args .vars .now) (c .before .before .before .intern .last .1 .1 .0) x (c .before .before .before .intern .result)) i (c .before .before .before .intern .ensures .0)) (c .after-node .ensures .0) (c .before .store-node .ensures)) refl), c .after-node .ensures .1)
+returns-2 c = (λ v p. named-var v (c .before .before .before .before .before .before .before .name .result .value) (c .before .before .before .before .before .before .before .name .ensures) (c .before .before .before .before .before .before .past-mark .ensures .other (c .before .before .before .before .before .if1 .left)) refl (λ w i. sets-plain (wrote-var (subst (λ (x : List ℕ). Interned (c .before .before .before .before .before .before .before .before .before .args .text .now) 16 (c .before .before .before .before .before .before .before .before .before .args .vars .now) (c .before .before .before .intern .last .1 .1 .0) x (c .before .before .before .intern .result)) i (c .before .before .before .intern .ensures .0)) (c .after-node .ensures .0) (c .before .store-node .ensures)) refl), c .after-node .ensures .1)
 
 pub named-form-spec : {M : Type 1} → statement M
 named-form-spec =
     tie.close
     (tie.spec
     name-requires
-    token-requires
+    past-mark-requires
     call-of-requires
     returns
     intern-requires

@@ -149,7 +149,7 @@ operation-expr-requires-2 : (t : ℕ) → operation-lts.Need-expr-requires-2 (op
 operation-expr-requires-2 t c κs = (omega (arith, c .before .before .before .before .before .before .before .before .before .before .before .pre .0), (c .before .before .before .before .before .before .before .before .before .before .before .pre .1 .0, c .before .before .before .before .before .before .expr .ensures .1))
 
 operation-mark-requires : (t : ℕ) → operation-lts.Need-mark-requires (operation-claims t) (operation-at t) operation.Post
-operation-mark-requires t c κs = (c .before .before .before .before .before .before .before .before .before .before .before .before .pre .1 .0, omega arith)
+operation-mark-requires t c κs = (c .before .before .before .before .before .before .before .before .before .before .before .before .pre .1 .0, refl)
 
 operation-returns : (t : ℕ) → operation-lts.Need-returns (operation-claims t) (operation-at t) operation.Post
 operation-returns t c = (bracketed-goes (exprDeep (c .before .before .before .before .before .before .before .before .before .before .before .before .before .args .depth)) (λ a b o qa qo qb. wrote-bin (c .before .before .before .before .before .before .before .before .before .before .before .before .before .args .out) o (c .before .before .before .before .before .before .before .before .before .after-node .ensures .0) qa qo (c .before .before .before .before .store-node .ensures) (c .before .before .before .before .before .between .ensures) qb) (c .before .before .before .before .before .before .before .before .expr .ensures .0) (c .before .before .before .before .before .before .before .operator .ensures) (c .before .expr2 .ensures .0) (c .mark .ensures), c .before .expr2 .ensures .1)
