@@ -95,6 +95,10 @@ main('doc-9', nine, [row('error 5', '0.0', 33, 16, stayed(16), '0 n30')] + [left
 # fifteen rounds of two steps and an input; the jump that is cut has made its term, and is no step
 main('doc-9', nine, [row('cut for branches', '0.1', 31, 16, stayed(15), '0 n30')] + [left(m) for m in range(15, 0, -1)], nine_terms,
      budget=(1024, 15), place=(((), 0), ((4,) * 14 + (5,), 1)))
+# 32 steps: both branches of the sixteenth jump are cut for steps, with sixteen conditions
+main('doc-9', nine, [row('cut for steps', '0.0', 32, 16, stayed(16), '0 n30'),
+                     row('cut for steps', '0.2', 32, 16, stayed(15) + ' 31=false', '0 n30')] + [left(m) for m in range(15, 0, -1)], nine_terms,
+     budget=(32, 16))
 # no branches: the first jump is cut; one branch: the second
 main('doc-9', nine, [row('cut for branches', '0.1', 1, 1, '', '0 n0')], nine_terms[:2], budget=(1024, 0), place=(((), 0),))
 main('doc-9', nine, [row('cut for branches', '0.1', 3, 2, '1=true', '0 n2'), left(1)], nine_terms[:4], budget=(1024, 1))
@@ -219,6 +223,10 @@ main('jump-number-term', 'a := iSym_0; ifgoto (a + 1) 0; vanish;', [row('error 2
 main('operators', 'a := iSym_0; p := (a = 3); q := not p; r := (p and true); s := (q or r); t := (p = q); u := (a = p); v := (1 - a); return s;',
      [row('returned b4', '0.8', 9, 1, '', '0 n0 b1 b2 b3 b4 b5 false n6')],
      ['# 0 -', '= n0 3', '! b1 -', '& b1 true', '| b2 b3', '= b1 b2', '- 1 n0'])
+# one operand that is a constant, or two alike, are worked out no sooner
+main('unfolded', 'a := iSym_0; p := (a < 5); q := (false and p); r := (true or p); s := (p or p); t := (0 + a); return q;',
+     [row('returned b2', '0.6', 7, 1, '', '0 n0 b1 b2 b3 b4 n5')],
+     ['# 0 -', '< n0 5', '& false b1', '| true b1', '| b1 b1', '+ 0 n0'])
 # nothing is simplified, and no branch dropped for being impossible: three paths, the first of them for no inputs, the last neither
 main('impossible', 'a := iSym_0; ifgoto (a = a) 3; vanish; ifgoto (a < 0) 2; return (a - a);',
      [row('vanished -', '0.2', 4, 1, '1=true 2=true', '0 n0'), row('returned n3', '0.4', 4, 1, '1=true 2=false', '0 n0'),
@@ -280,6 +288,8 @@ long = small + ' ' * (16385 - len(small))
 refused('small', 1, small, budget=(0, 16))
 refused('small', 1, small, budget=(1025, 16))
 refused('small', 1, small, budget=(1024, 17))
+refused('small', 1, small, budget=(1024, 256))
+refused('small', 1, small, budget=(65537, 16))
 refused('small', 1, small, inputs=(), budget=(0, 16))
 refused('small', 1, small, inputs=(), budget=(1024, 4294967295))
 refused('small', 2, small, lent=(65599, 40960))

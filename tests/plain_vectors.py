@@ -155,10 +155,16 @@ main('cell-order', 'ifgoto true 2; a := lookup([x, "z"]); o := uSym_0; p := uSym
 # dispose takes all cells of its location and no others
 main('cell-dispose', 'o := uSym_0; p := uSym_0; q := uSym_0; a := mutate([o, "b", 1]); a := mutate([p, "b", 2]); a := mutate([p, "c", 3]); '
      'a := mutate([q, "b", 4]); a := dispose(p); fail q;', 'failed $2', '0.8', 9, '0 $0 $1 $2 true', '$0.0=1 $2.0=4')
+# the same where it has thirty, between two that stay; q0 to q29 are numbered as they stand
+many = ''.join('a := mutate([p, "q%d", %d]); ' % (k, k) for k in range(30))
+main('cell-dispose-30', 'o := uSym_0; p := uSym_0; q := uSym_0; a := mutate([o, "q0", 1]); ' + many + 'a := mutate([q, "q29", 5]); '
+     'a := dispose(p); return a;', 'returned true', '0.36', 37, '0 $0 $1 $2 true', '$0.0=1 $2.29=5')
 
 # -------------------------------------------------------------------------------------------------------------------- frames and ends
 # only the parameter is bound in a frame
 text('frame-unbound', 'main(x){ y := 5; a := f(1); return a; } f(p){ return y; }', 'error 1', '1.0', 3, '1 -')
+# also where an earlier frame at that height had bound more: a call and three commands, a call, the jump, and the return that errs
+text('frame-anew', 'main(x){ a := f(1); b := f(2); return b; } f(y){ ifgoto (y = 2) 3; z := 5; return z; return z; }', 'error 1', '1.3', 7, '2 -')
 text('frame-failed', 'main(x){ a := f(3); vanish; } f(y){ z := iSym_9; fail (y + z); }', 'failed 7', '1.1', 3, '3 4', inputs=(4,), read=1)
 text('frame-vanished', 'f(y){ z := y; vanish; } main(x){ a := f(true); return a; }', 'vanished -', '0.1', 3, 'true true')
 # cells are the run's and no frame's
@@ -197,6 +203,7 @@ main('variables-16', ''.join('v%d := %d; ' % (k, k) for k in range(1, 16)) + 're
 small = 'main(x){ vanish; }'
 long = small + ' ' * (16385 - len(small))
 refused('small', 1, small, budget=1025)
+refused('small', 1, small, budget=65536)
 refused('small', 1, small, budget=4294967295)
 refused('small', 2, small, inputs=63)
 refused('small', 2, small, inputs=65)
