@@ -1,0 +1,60 @@
+// The program's arguments: the names of files, and numbers. Each is printed where it is read, so that a vector's line begins with what
+// it was given.
+ghost use Rattle.io.specs.Counts.{Counts};
+ghost use mathlib.Core.Path.{_≡_};
+ghost use Prim.Native.Nat.{_<_};
+use crate::bytes::text;
+
+// Puts what a file holds at the start of buf, as much as it has room for, and answers how many bytes.
+fn read(path: &[u8], buf: &mut [u8]) -> usize
+    ensures { λ r. ⌜ Counts r (now (buf .exit)) ⌝ }
+{
+    let fd = os::open_read(path);
+    if fd < 0 {
+        os::fail(path);
+        return io::count(0, buf);
+    }
+    let n = io::read_full(fd, buf);
+    libc::close(fd);
+    n
+}
+
+// Argument i names a file: puts what it holds at the start of buf, and answers how many bytes.
+pub fn file(i: usize, buf: &mut [u8]) -> usize
+    ensures { λ r. ⌜ Counts r (now (buf .exit)) ⌝ }
+{
+    let mut path = io::buffer();
+    let length = os::arg(i, &mut path);
+    text(&path[..length]);
+    text(b" ");
+    read(&path[..length], buf)
+}
+
+fn digit(b: u8) -> u64
+    ensures { λ r. ⌜ r < 256 ⌝ }
+{
+    if b < b'0' {
+        return 0;
+    }
+    b as u64 - 48
+}
+
+// A number in decimal, modulo 2^32.
+fn value_of(s: &[u8]) -> u32 {
+    let mut n: u64 = 0;
+    let mut i = 0;
+    while i < s.len() {
+        n = (10 * n + digit(s[i])) % 4294967296;
+        i += 1;
+    }
+    n as u32
+}
+
+// Argument i is a number.
+pub fn decimal(i: usize) -> u32 {
+    let mut word = io::buffer();
+    let length = os::arg(i, &mut word);
+    text(&word[..length]);
+    text(b" ");
+    value_of(&word[..length])
+}
