@@ -98,7 +98,7 @@ enterIn c x f v store =
 
 unfoldable pub leaveIn : Control → ℕ → List ℕ → Acted
 leaveIn c v store =
-    if? (eqb (c .frame) 0) (acted (Returned v) store)
+    if? (eqb (c .frame) 0) (acted (Returned (v / 4294967296) (v % 4294967296)) store)
     (acted
     (On (movedIn c (c .frame - 1) (wordIn (19 * c .frame + 16) store) (wordIn (19 * c .frame + 16 + 1) store)))
     (putIn (19 * c .frame - 19 + wordIn (19 * c .frame + 16 + 2) store) v store))
@@ -153,7 +153,7 @@ actIn c m v store =
     if? (eqb (m .kind) 1) (assignIn c (m .target) v store)
     (if? (eqb (m .kind) 2) (acted (jumpIn c (m .target) v) store)
     (if? (eqb (m .kind) 3) (enterIn c (m .target) (m .other) v store)
-    (if? (eqb (m .kind) 9) (leaveIn c v store) (acted (Failed v) store))))
+    (if? (eqb (m .kind) 9) (leaveIn c v store) (acted (Failed (v / 4294967296) (v % 4294967296)) store))))
 
 -- an evaluation, and what is done with its value
 unfoldable pub onValue : Did → List ℕ → (ℕ → Acted) → After

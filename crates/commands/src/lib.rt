@@ -18,10 +18,10 @@ use values::VALUES;
 // Where a path stands and what it has used up: the frame (main is the first, 0), the procedure and the number of its next command
 pub struct Control {
     pub frame: u32,
-    pub procedure: u32,
-    pub command: u32,
     pub inputs: Input,
     pub locations: Location,
+    pub procedure: u32,
+    pub command: u32,
 }
 
 // A command's five words (crates/code)
@@ -33,11 +33,12 @@ pub struct Command {
     pub second: u32,
 }
 
-// What a command comes to. A value is its word; a fork has its term's place and where each branch goes on.
+// What a command comes to. A value is its tag and its word; a fork has its term's place and where each branch goes on. Every field is of 32
+// bits, so that none lies across two others and the compiler keeps each in a register.
 pub enum Next {
     On(Control),
-    Returned(u64),
-    Failed(u64),
+    Returned(u32, u32),
+    Failed(u32, u32),
     Vanished,
     Error(u32),
     Fork(u32, Control, Control),
@@ -219,7 +220,7 @@ fn leave(c: Control, v: u64, store: &mut [u64; STORE_WORDS]) -> Next
     ensures { λ r. ⌜ acted r (now (store .exit)) ≡ leaveIn c v (now (store .entry)) ⌝ }
 {
     if c.frame == 0 {
-        return Next::Returned(v);
+        return Next::Returned(values::tag(v), values::word(v));
     }
     let base = FRAME_WORDS * (c.frame as usize);
     let procedure = word(store, base + RETURNS);
@@ -309,7 +310,7 @@ fn act(c: Control, m: Command, v: u64, store: &mut [u64; STORE_WORDS]) -> Next
         2 => jump(c, m.target, v),
         3 => enter(c, m.target, m.other, v, store),
         9 => leave(c, v, store),
-        _ => Next::Failed(v),
+        _ => Next::Failed(values::tag(v), values::word(v)),
     }
 }
 

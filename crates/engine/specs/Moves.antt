@@ -53,8 +53,8 @@ module _ {M : Model} (E : Engine M) (p : Program) where
         {s : State (M .Term)} {c : Control} {store′ : List ℕ} {ds′ : List (Machine.Cell ℕ)}
         → StateAs s c store′ ds′
         → NextAs store ds (on s) (On c) store′ ds′
-    hasReturned : {v : Value (M .Term)} {x : ℕ} → As E v x → NextAs store ds (ends (returned v)) (Returned x) store ds
-    hasFailed : {v : Value (M .Term)} {x : ℕ} → As E v x → NextAs store ds (ends (failed v)) (Failed x) store ds
+    hasReturned : {v : Value (M .Term)} {x : ℕ} → As E v x → NextAs store ds (ends (returned v)) (Returned (x / 4294967296) (x % 4294967296)) store ds
+    hasFailed : {v : Value (M .Term)} {x : ℕ} → As E v x → NextAs store ds (ends (failed v)) (Failed (x / 4294967296) (x % 4294967296)) store ds
     hasVanished : NextAs store ds (ends vanished) Vanished store ds
     hasErred : {n : ℕ} → NextAs store ds (ends (error n)) (Error n) store ds
     hasForked :

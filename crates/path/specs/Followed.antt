@@ -1,5 +1,5 @@
 -- A path followed on words, from one fork to the next: what `follow` answers and leaves, over what one command comes to. Assumes nothing.
-use Prim.Native.Nat.{ℕ, zero, suc, _+_, _*_, _/_, _%_}
+use Prim.Native.Nat.{ℕ, zero, suc, _+_, _*_, _%_}
 use mathlib.Core.Bool.{Bool, true, false}
 use mathlib.Core.List.{List}
 use lib.Dec.{ltb, leb, eqb}
@@ -10,9 +10,9 @@ use Rattle.commands.specs.declared.Control.{Control}
 use Rattle.commands.specs.declared.Command.{Command}
 use Rattle.commands.specs.declared.Next.{Next}
 use Rattle.commands.specs.declared.Next.the-variants.{On, Returned, Failed, Vanished, Error, Fork}
-use Rattle.commands.specs.Stepped.{codeWord, fetchIn}
-use Rattle.actions.specs.Changed.{Changed, lookupIn, changeIn}
-use Rattle.engine.specs.Laws.{ofAfter, engineIn}
+use Rattle.commands.specs.Stepped.{After, codeWord, fetchIn, stepIn}
+use Rattle.actions.specs.Changed.{Changed, lookupIn}
+use Rattle.engine.specs.Laws.{engineIn}
 use Rattle.rows.specs.declared.Head.{Head}
 use Rattle.path.specs.declared.Outcome.{Outcome}
 use Rattle.path.specs.declared.Stop.{Stop}
@@ -56,16 +56,16 @@ stopped r s p k =
 -- a command goes on, within the terms that there is room for
 unfoldable pub goesIn : Next → ℕ → Bool
 goesIn (On d) n = leb n 2048
-goesIn (Returned v) n = false
-goesIn (Failed v) n = false
+goesIn (Returned t w) n = false
+goesIn (Failed t w) n = false
 goesIn Vanished n = false
 goesIn (Error e) n = false
 goesIn (Fork t a b) n = false
 
 unfoldable pub whereIn : Next → Control → Control
 whereIn (On d) c = d
-whereIn (Returned v) c = c
-whereIn (Failed v) c = c
+whereIn (Returned t w) c = c
+whereIn (Failed t w) c = c
 whereIn Vanished c = c
 whereIn (Error e) c = c
 whereIn (Fork t a b) c = c
@@ -106,13 +106,14 @@ followIn one zero n s = cutAt n s
 followIn one (suc k) n s =
     if? (goesIn (one s .kept .next) (one s .count)) (followIn one k (suc n) (spotAfter s (one s))) (stoppedAt n s (one s))
 
--- the three actions on cells
-unfoldable pub actsIn : ℕ → Bool
-actsIn kind = if? (ltb kind 4) false (ltb kind 7)
+-- `mutate` and `dispose`
+unfoldable pub changesIn : ℕ → Bool
+changesIn kind = if? (ltb kind 5) false (ltb kind 7)
 
-unfoldable pub actIn : List ℕ → Control → Command → List (Machine.Cell ℕ) → List ℕ → List ℕ → ℕ → Changed
-actIn code c m ds store pool count =
-    if? (eqb (m .kind) 4) (ofAfter (lookupIn code c m ds store pool count) ds) (changeIn code c m ds store pool count)
+-- a command that leaves the cells as they are
+unfoldable pub stillIn : List ℕ → Control → Command → Bool → List ℕ → List (Machine.Cell ℕ) → List ℕ → List ℕ → ℕ → After
+stillIn code c m known inputs ds store pool count =
+    if? (eqb (m .kind) 4) (lookupIn code c m ds store pool count) (stepIn code c m known inputs store pool count)
 
 -- one command on a program's words: the engine's move
 unfoldable pub oneIn : List ℕ → Bool → List ℕ → Spot → Changed
@@ -122,8 +123,8 @@ oneIn code known inputs s =
 -- a row's outcome, its value, error number or reason, and its steps
 unfoldable pub endOf : Next → ℕ → Outcome
 endOf (On d) n = record { outcome = 5; tag = 0; word = 2; steps = n }
-endOf (Returned v) n = record { outcome = 1; tag = v / 4294967296; word = v % 4294967296; steps = (n + 1) % 4294967296 }
-endOf (Failed v) n = record { outcome = 2; tag = v / 4294967296; word = v % 4294967296; steps = (n + 1) % 4294967296 }
+endOf (Returned t w) n = record { outcome = 1; tag = t; word = w; steps = (n + 1) % 4294967296 }
+endOf (Failed t w) n = record { outcome = 2; tag = t; word = w; steps = (n + 1) % 4294967296 }
 endOf Vanished n = record { outcome = 3; tag = 0; word = 0; steps = (n + 1) % 4294967296 }
 endOf (Error e) n = record { outcome = 4; tag = 0; word = e; steps = (n + 1) % 4294967296 }
 endOf (Fork t a b) n = record { outcome = 5; tag = 0; word = 2; steps = n }

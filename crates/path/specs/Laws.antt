@@ -173,8 +173,8 @@ module _ {M : Model} (E : Engine M) (p : Program) where
 -- a path's end in words
 module _ {M : Model} (E : Engine M) where
   pub data EndAs : Machine.End (M .Term) → Next → Type 0 where
-    endReturned : {v : Value (M .Term)} {x : ℕ} → As E v x → EndAs (returned v) (Returned x)
-    endFailed : {v : Value (M .Term)} {x : ℕ} → As E v x → EndAs (failed v) (Failed x)
+    endReturned : {v : Value (M .Term)} {x : ℕ} → As E v x → EndAs (returned v) (Returned (x / 4294967296) (x % 4294967296))
+    endFailed : {v : Value (M .Term)} {x : ℕ} → As E v x → EndAs (failed v) (Failed (x / 4294967296) (x % 4294967296))
     endVanished : EndAs vanished Vanished
     endErred : {n : ℕ} → EndAs (error n) (Error n)
 

@@ -1,16 +1,14 @@
 // A path on a program's words, from one fork to the next: commands one after another, by the one engine, for the plain run and for the
-// exploration. Control goes by value, the store, the pool and the count of terms are lent, and only an action on cells passes the cells.
+// exploration. Control goes by value, the store, the pool and the count of terms are lent, and only `mutate` and `dispose` pass the cells on.
 // specs/Followed.antt has the words; specs/Laws.antt shows that on a program's words they are document 01's path and row.
 ghost use mathlib.Core.Path.{_≡_};
 ghost use Prim.Native.Nat.{_≤_, _-_, _+_, _*_};
 ghost use lib.ListN.{length};
 ghost use Rattle.cells.specs.Held.{heldIn};
-ghost use Rattle.commands.specs.Stepped.{codeWord};
+ghost use Rattle.commands.specs.Stepped.{after, codeWord};
 ghost use Rattle.commands.specs.declared.Next.the-variants.{Vanished};
 ghost use mathlib.Core.Bool.{true, false};
-ghost use Rattle.actions.specs.Changed.{ChangedTo};
-ghost use Rattle.path.specs.Followed.{goesIn, whereIn, actsIn, actIn, oneIn, followIn, endOf, endedIn, headIn, spot, stopped};
-use actions::Memory;
+ghost use Rattle.path.specs.Followed.{goesIn, whereIn, changesIn, stillIn, oneIn, followIn, endOf, endedIn, headIn, spot, stopped};
 use cells::CELLS;
 use cells::Cell;
 use code::CODE_WORDS;
@@ -59,30 +57,32 @@ fn target(next: Next, c: Control) -> Control
     }
 }
 
-fn acts(kind: u32) -> bool
-    ensures { λ r. ⌜ r ≡ actsIn kind ⌝ }
+// `mutate` and `dispose`
+fn changes(kind: u32) -> bool
+    ensures { λ r. ⌜ r ≡ changesIn kind ⌝ }
 {
-    if kind < 4 { false } else { kind < 7 }
+    if kind < 5 { false } else { kind < 7 }
 }
 
-// An action on cells: what it comes to, and the cells after it
-fn act(
+// A command that leaves the cells as they are. `lookup` reads them; they go in and do not come back, so that nothing has to be copied.
+fn still(
     code: &[u32; CODE_WORDS],
     c: Control,
     m: Command,
+    known: bool,
+    inputs: &[u32; 16],
     held: usize,
     cells: [Cell; CELLS],
     store: &mut [u64; STORE_WORDS],
     pool: &mut [u8],
     count: &mut u32,
-) -> Memory
-    ensures { λ r. ⌜ (held ≤ 32 → ChangedTo r (now (store .exit)) (now (pool .exit)) (now (count .exit)) (actIn (now (code .entry)) c m (heldIn held cells) (now (store .entry)) (now (pool .entry)) (now (count .entry)))) ⌝ }
+) -> Next
+    ensures { λ r. ⌜ after r (now (store .exit)) (now (pool .exit)) (now (count .exit)) ≡ stillIn (now (code .entry)) c m known (now (inputs .entry)) (heldIn held cells) (now (store .entry)) (now (pool .entry)) (now (count .entry)) ⌝ }
 {
     if m.kind == 4 {
-        let next = actions::lookup(code, c, m, cells, held, store, pool, count);
-        return Memory { next, cells, held };
+        return actions::lookup(code, c, m, cells, held, store, pool, count);
     }
-    actions::change(code, c, m, cells, held, store, pool, count)
+    commands::step(code, c, m, known, inputs, store, pool, count)
 }
 
 // Commands in a row, until one does anything but go on or the steps are used up
@@ -109,8 +109,8 @@ pub fn follow(
     let mut memory = cells;
     while n < budget {
         let m = commands::fetch(code, c);
-        if acts(m.kind) {
-            let a = act(code, c, m, used, memory, store, pool, count);
+        if changes(m.kind) {
+            let a = actions::change(code, c, m, memory, used, store, pool, count);
             let next = a.next;
             used = a.held;
             let left = a.cells;
@@ -122,7 +122,7 @@ pub fn follow(
             n += 1;
             continue;
         }
-        let next = commands::step(code, c, m, known, inputs, store, pool, count);
+        let next = still(code, c, m, known, inputs, used, memory, store, pool, count);
         if !goes(next, *count) {
             return stopped_at(next, c, n, used, memory);
         }
@@ -165,8 +165,8 @@ fn end(next: Next, steps: u32) -> Outcome
     let counted = std::num::wrapping_add_u32(steps, 1);
     match next {
         Next::On(_) => outcome_words(5, 0, 2, steps),
-        Next::Returned(v) => outcome_words(1, values::tag(v), values::word(v), counted),
-        Next::Failed(v) => outcome_words(2, values::tag(v), values::word(v), counted),
+        Next::Returned(t, w) => outcome_words(1, t, w, counted),
+        Next::Failed(t, w) => outcome_words(2, t, w, counted),
         Next::Vanished => outcome_words(3, 0, 0, counted),
         Next::Error(n) => outcome_words(4, 0, n, counted),
         Next::Fork(_, _, _) => outcome_words(5, 0, 2, steps),

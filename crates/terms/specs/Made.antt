@@ -1,13 +1,14 @@
 -- What the functions of this crate answer and leave, on words: an operator's value, or an error number, and the pool and the count of terms
 -- after it. Assumes nothing.
 use Prim.Native.Nat.{ℕ, _+_, _*_, _/_, _%_}
+use mathlib.Core.Bool.{Bool, false}
 use mathlib.Core.List.{List, [], _∷_}
 use lib.ListN.{length}
 use lib.Seq.{sets}
 use lib.Dec.{ltb, leb, eqb}
 use Rattle.gil.specs.Names.{gather}
 use Rattle.gil.specs.Layout.{wordBytes}
-use Rattle.values.specs.Packed.{if?, truthWord, sortWord, fitWord, workWord}
+use Rattle.values.specs.Packed.{if?, truthWord, sortWord, neededWord, fitWord, workWord}
 
 -- an action's answer, and the lent pool and count after it
 pub record Did : Type 0 where
@@ -39,6 +40,10 @@ termIn kind a b pool count =
     (if? (ltb kind 7) (17179869184 + count) (21474836480 + count))
     (poolWith (nodeOf ((kind + 4294967294) % 4294967296) a b) count pool)
     ((count + 1) % 4294967296)
+
+-- two constants of the sort that the operator needs
+unfoldable pub neededIn : ℕ → ℕ → ℕ → Bool
+neededIn kind a b = if? (eqb (a / 4294967296) (neededWord kind)) (eqb (b / 4294967296) (neededWord kind)) false
 
 unfoldable pub operateIn : ℕ → ℕ → ℕ → List ℕ → ℕ → Did
 operateIn kind a b pool count =

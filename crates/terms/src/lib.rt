@@ -7,7 +7,7 @@ ghost use Prim.Native.Nat.{_+_, _≤_};
 ghost use lib.ListN.{length};
 ghost use lib.Seq.{sets};
 ghost use Rattle.gil.specs.Layout.{wordBytes};
-ghost use Rattle.terms.specs.Made.{did, nodeOf, madeIn, termIn, operateIn, negateIn, inputIn};
+ghost use Rattle.terms.specs.Made.{did, nodeOf, madeIn, termIn, neededIn, operateIn, negateIn, inputIn};
 use values::BOOLEAN_TERMS;
 use values::FALSE;
 use values::Input;
@@ -70,9 +70,23 @@ fn term(pool: &mut [u8], count: &mut u32, kind: u32, a: u64, b: u64) -> u64
     }
 }
 
+// Two constants of the sort that the operator needs: the common case, told by their tags alone
+fn needed(kind: u32, a: u64, b: u64) -> bool
+    ensures { λ r. ⌜ r ≡ neededIn kind a b ⌝ }
+{
+    let sort = values::needed(kind);
+    if values::tag(a) == sort {
+        return values::tag(b) == sort;
+    }
+    false
+}
+
 pub fn operate(pool: &mut [u8], count: &mut u32, kind: u32, a: u64, b: u64) -> u64
     ensures { λ r. ⌜ did r (now (pool .exit)) (now (count .exit)) ≡ operateIn kind a b (now (pool .entry)) (now (count .entry)) ⌝ }
 {
+    if needed(kind, a, b) {
+        return values::work(kind, values::word(a), values::word(b));
+    }
     let fit = values::fit(kind, values::sort(a), values::sort(b));
     if fit == 1 {
         return WRONG_SORT;

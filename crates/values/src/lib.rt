@@ -66,8 +66,8 @@ pub fn sort(v: u64) -> u32
     if 3 < t { t - 3 } else { t }
 }
 
-// The sort that an operator other than `=` needs
-fn needed(kind: u32) -> u32
+// The sort that an operator other than `=` needs; `=` takes every sort, and most often numbers
+pub fn needed(kind: u32) -> u32
     ensures { λ r. ⌜ r ≡ neededWord kind ⌝ }
 {
     if kind < 9 { 1 } else { 2 }

@@ -74,8 +74,8 @@ module _ (code : List ℕ) (branches : ℕ) (conditions table : List ℕ) (cut :
 -- a path that stopped is no fork
 pub data NoFork : Next → Type 0 where
   isOn : {d : Control} → NoFork (On d)
-  isReturned : {v : ℕ} → NoFork (Returned v)
-  isFailed : {v : ℕ} → NoFork (Failed v)
+  isReturned : {t w : ℕ} → NoFork (Returned t w)
+  isFailed : {t w : ℕ} → NoFork (Failed t w)
   isVanished : NoFork Vanished
   isError : {e : ℕ} → NoFork (Error e)
 

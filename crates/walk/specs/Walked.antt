@@ -75,8 +75,8 @@ afterFirst r f = if? (eqb (r .refusal) 0) (f r) r
 -- what a path that stopped comes to, where a fork's branches are known
 unfoldable pub turnBy : (ℕ → Control → Control → Reached) → Reached → Next → Reached
 turnBy forks row (On d) = row
-turnBy forks row (Returned v) = row
-turnBy forks row (Failed v) = row
+turnBy forks row (Returned t w) = row
+turnBy forks row (Failed t w) = row
 turnBy forks row Vanished = row
 turnBy forks row (Error e) = row
 turnBy forks row (Fork t a b) = forks t a b

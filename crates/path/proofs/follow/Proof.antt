@@ -5,16 +5,16 @@ use borrow.Author.Needs.{needs}
 use lib.ListN.{length}
 use Rattle.cells.specs.Held.{heldIn}
 use Rattle.path.specs.Followed.{spot, followIn, oneIn}
-use Rattle.path.specs.Turns.{one-acts, one-steps, goes-on, stops, used-up}
+use Rattle.path.specs.Turns.{one-changes, one-stays, goes-on, stops, used-up}
 use Rattle.path.proofs.follow.Statement.{statement}
 use Rattle.path.proofs.follow.Tie as tie
 use Rattle.path.proofs.follow.Reads as reads
 use Rattle.path.proofs.follow.Lts as lts
+use Rattle.actions.proofs.change.Reads as change-reads
 use Rattle.commands.proofs.fetch.Reads as fetch-reads
-use Rattle.commands.proofs.step.Reads as step-reads
-use Rattle.path.proofs.act.Reads as act-reads
-use Rattle.path.proofs.acts.Reads as acts-reads
+use Rattle.path.proofs.changes.Reads as changes-reads
 use Rattle.path.proofs.goes.Reads as goes-reads
+use Rattle.path.proofs.still.Reads as still-reads
 use Rattle.path.proofs.stopped_at.Reads as stopped-at-reads
 use Rattle.path.proofs.target.Reads as target-reads
 use Rattle.path.proofs.used_up.Reads as used-up-reads
@@ -39,12 +39,12 @@ fetch-requires : tie.Need-fetch-requires Inv-loop μ-loop
 fetch-requires c κs = search needs
 
 -- src/lib.rt:112:12
-acts-requires : tie.Need-acts-requires Inv-loop μ-loop
-acts-requires c κs = search needs
+changes-requires : tie.Need-changes-requires Inv-loop μ-loop
+changes-requires c κs = search needs
 
 -- src/lib.rt:113:17
-act-requires : tie.Need-act-requires Inv-loop μ-loop
-act-requires c κs = search needs
+change-requires : tie.Need-change-requires Inv-loop μ-loop
+change-requires c κs = search needs
 
 -- src/lib.rt:118:17
 goes-requires : tie.Need-goes-requires Inv-loop μ-loop
@@ -56,11 +56,11 @@ stopped-at-requires c κs = search needs
 
 -- src/lib.rt:119:17
 same-length : tie.Need-same-length Inv-loop μ-loop
-same-length c = omega (arith, c .before .before .before .before .before .before .before .act .kept, c .before .before .before .before .before .before .before .before .before .before .before .before .before .before .before .loop .inv .2)
+same-length c = omega (arith, c .before .before .before .before .before .before .before .change .kept, c .before .before .before .before .before .before .before .before .before .before .before .before .before .before .before .loop .inv .2)
 
 -- src/lib.rt:119:17
 returns : tie.Need-returns Inv-loop μ-loop
-returns c = (stops (oneIn _ _ _) (c .before .before .before .before .before .before .before .before .before .before .before .before .before .before .before .loop .inv .0) (c .before .before .before .before .before .before .before .before .before .before .before .before .before .before .loop-test .taken) (one-acts _ _ _ _ _ _ _ _ (c .before .before .before .before .before .before .before .before .before .before .before .before .before .fetch .ensures) (c .before .before .before .before .before .before .before .before .before .before .before .before .acts .ensures) (c .before .before .before .before .before .before .before .before .before .before .before .if1 .taken) (c .before .before .before .before .before .before .before .act .ensures (c .before .before .before .before .before .before .before .before .before .before .before .before .before .before .before .loop .inv .1))) (c .before .before .goes .ensures) (c .before .if2 .taken) refl (c .stopped-at .ensures .0), (rw (c .stopped-at .ensures .0) (c .before .before .before .before .before .before .before .act .ensures (c .before .before .before .before .before .before .before .before .before .before .before .before .before .before .before .loop .inv .1) .remembered .few), rw (c .stopped-at .ensures .0) (c .stopped-at .ensures .1)))
+returns c = (stops (oneIn _ _ _) (c .before .before .before .before .before .before .before .before .before .before .before .before .before .before .before .loop .inv .0) (c .before .before .before .before .before .before .before .before .before .before .before .before .before .before .loop-test .taken) (one-changes _ _ _ _ _ _ _ _ (c .before .before .before .before .before .before .before .before .before .before .before .before .before .fetch .ensures) (c .before .before .before .before .before .before .before .before .before .before .before .before .changes .ensures) (c .before .before .before .before .before .before .before .before .before .before .before .if1 .taken) (c .before .before .before .before .before .before .before .change .ensures (c .before .before .before .before .before .before .before .before .before .before .before .before .before .before .before .loop .inv .1))) (c .before .before .goes .ensures) (c .before .if2 .taken) refl (c .stopped-at .ensures .0), (rw (c .stopped-at .ensures .0) (c .before .before .before .before .before .before .before .change .ensures (c .before .before .before .before .before .before .before .before .before .before .before .before .before .before .before .loop .inv .1) .remembered .few), rw (c .stopped-at .ensures .0) (c .stopped-at .ensures .1)))
 
 -- src/lib.rt:121:13
 target-requires : tie.Need-target-requires Inv-loop μ-loop
@@ -76,11 +76,11 @@ loop-less c = omega arith
 
 -- src/lib.rt:110:5
 loop-again : tie.Need-loop-again Inv-loop μ-loop
-loop-again c = (goes-on (oneIn _ _ _) (c .before .before .before .before .before .before .before .before .before .before .before .before .before .before .before .loop .inv .0) (c .before .before .before .before .before .before .before .before .before .before .before .before .before .before .loop-test .taken) (one-acts _ _ _ _ _ _ _ _ (c .before .before .before .before .before .before .before .before .before .before .before .before .before .fetch .ensures) (c .before .before .before .before .before .before .before .before .before .before .before .before .acts .ensures) (c .before .before .before .before .before .before .before .before .before .before .before .if1 .taken) (c .before .before .before .before .before .before .before .act .ensures (c .before .before .before .before .before .before .before .before .before .before .before .before .before .before .before .loop .inv .1))) (c .before .before .goes .ensures) (c .before .if2 .left) (c .target .ensures), c .before .before .before .before .before .before .before .act .ensures (c .before .before .before .before .before .before .before .before .before .before .before .before .before .before .before .loop .inv .1) .remembered .few, omega (arith, c .before .before .before .before .before .before .before .act .kept, c .before .before .before .before .before .before .before .before .before .before .before .before .before .before .before .loop .inv .2))
+loop-again c = (goes-on (oneIn _ _ _) (c .before .before .before .before .before .before .before .before .before .before .before .before .before .before .before .loop .inv .0) (c .before .before .before .before .before .before .before .before .before .before .before .before .before .before .loop-test .taken) (one-changes _ _ _ _ _ _ _ _ (c .before .before .before .before .before .before .before .before .before .before .before .before .before .fetch .ensures) (c .before .before .before .before .before .before .before .before .before .before .before .before .changes .ensures) (c .before .before .before .before .before .before .before .before .before .before .before .if1 .taken) (c .before .before .before .before .before .before .before .change .ensures (c .before .before .before .before .before .before .before .before .before .before .before .before .before .before .before .loop .inv .1))) (c .before .before .goes .ensures) (c .before .if2 .left) (c .target .ensures), c .before .before .before .before .before .before .before .change .ensures (c .before .before .before .before .before .before .before .before .before .before .before .before .before .before .before .loop .inv .1) .remembered .few, omega (arith, c .before .before .before .before .before .before .before .change .kept, c .before .before .before .before .before .before .before .before .before .before .before .before .before .before .before .loop .inv .2))
 
 -- src/lib.rt:125:13
-step-requires : tie.Need-step-requires Inv-loop μ-loop
-step-requires c κs = search needs
+still-requires : tie.Need-still-requires Inv-loop μ-loop
+still-requires c κs = search needs
 
 -- src/lib.rt:126:13
 goes-requires-2 : tie.Need-goes-requires-2 Inv-loop μ-loop
@@ -92,11 +92,11 @@ stopped-at-requires-2 c κs = search needs
 
 -- src/lib.rt:127:13
 same-length-2 : tie.Need-same-length-2 Inv-loop μ-loop
-same-length-2 c = omega (arith, c .before .before .before .before .before .before .step .kept, c .before .before .before .before .before .before .before .before .before .before .before .before .before .before .loop .inv .2)
+same-length-2 c = omega (arith, c .before .before .before .before .before .before .still .kept, c .before .before .before .before .before .before .before .before .before .before .before .before .before .before .loop .inv .2)
 
 -- src/lib.rt:127:13
 returns-2 : tie.Need-returns-2 Inv-loop μ-loop
-returns-2 c = (stops (oneIn _ _ _) (c .before .before .before .before .before .before .before .before .before .before .before .before .before .before .loop .inv .0) (c .before .before .before .before .before .before .before .before .before .before .before .before .before .loop-test .taken) (one-steps _ _ _ _ _ _ _ _ (c .before .before .before .before .before .before .before .before .before .before .before .before .fetch .ensures) (c .before .before .before .before .before .before .before .before .before .before .before .acts .ensures) (c .before .before .before .before .before .before .before .before .before .before .if1 .left) (c .before .before .before .before .before .before .step .ensures)) (c .before .before .goes2 .ensures) (c .before .if3 .taken) refl (c .stopped-at2 .ensures .0), (rw (c .stopped-at2 .ensures .0) (c .before .before .before .before .before .before .before .before .before .before .before .before .before .before .loop .inv .1), rw (c .stopped-at2 .ensures .0) (c .stopped-at2 .ensures .1)))
+returns-2 c = (stops (oneIn _ _ _) (c .before .before .before .before .before .before .before .before .before .before .before .before .before .before .loop .inv .0) (c .before .before .before .before .before .before .before .before .before .before .before .before .before .loop-test .taken) (one-stays _ _ _ _ _ _ _ _ (c .before .before .before .before .before .before .before .before .before .before .before .before .fetch .ensures) (c .before .before .before .before .before .before .before .before .before .before .before .changes .ensures) (c .before .before .before .before .before .before .before .before .before .before .if1 .left) (c .before .before .before .before .before .before .still .ensures)) (c .before .before .goes2 .ensures) (c .before .if3 .taken) refl (c .stopped-at2 .ensures .0), (rw (c .stopped-at2 .ensures .0) (c .before .before .before .before .before .before .before .before .before .before .before .before .before .before .loop .inv .1), rw (c .stopped-at2 .ensures .0) (c .stopped-at2 .ensures .1)))
 
 -- src/lib.rt:129:9
 target-requires-2 : tie.Need-target-requires-2 Inv-loop μ-loop
@@ -112,7 +112,7 @@ loop-less-2 c = omega arith
 
 -- src/lib.rt:110:5
 loop-again-2 : tie.Need-loop-again-2 Inv-loop μ-loop
-loop-again-2 c = (goes-on (oneIn _ _ _) (c .before .before .before .before .before .before .before .before .before .before .before .before .before .before .loop .inv .0) (c .before .before .before .before .before .before .before .before .before .before .before .before .before .loop-test .taken) (one-steps _ _ _ _ _ _ _ _ (c .before .before .before .before .before .before .before .before .before .before .before .before .fetch .ensures) (c .before .before .before .before .before .before .before .before .before .before .before .acts .ensures) (c .before .before .before .before .before .before .before .before .before .before .if1 .left) (c .before .before .before .before .before .before .step .ensures)) (c .before .before .goes2 .ensures) (c .before .if3 .left) (c .target2 .ensures), c .before .before .before .before .before .before .before .before .before .before .before .before .before .before .loop .inv .1, omega (arith, c .before .before .before .before .before .before .step .kept, c .before .before .before .before .before .before .before .before .before .before .before .before .before .before .loop .inv .2))
+loop-again-2 c = (goes-on (oneIn _ _ _) (c .before .before .before .before .before .before .before .before .before .before .before .before .before .before .loop .inv .0) (c .before .before .before .before .before .before .before .before .before .before .before .before .before .loop-test .taken) (one-stays _ _ _ _ _ _ _ _ (c .before .before .before .before .before .before .before .before .before .before .before .before .fetch .ensures) (c .before .before .before .before .before .before .before .before .before .before .before .changes .ensures) (c .before .before .before .before .before .before .before .before .before .before .if1 .left) (c .before .before .before .before .before .before .still .ensures)) (c .before .before .goes2 .ensures) (c .before .if3 .left) (c .target2 .ensures), c .before .before .before .before .before .before .before .before .before .before .before .before .before .before .loop .inv .1, omega (arith, c .before .before .before .before .before .before .still .kept, c .before .before .before .before .before .before .before .before .before .before .before .before .before .before .loop .inv .2))
 
 -- src/lib.rt:132:5
 used-up-requires : tie.Need-used-up-requires Inv-loop μ-loop
@@ -134,8 +134,8 @@ follow-spec =
     μ-loop
     loop-holds
     fetch-requires
-    acts-requires
-    act-requires
+    changes-requires
+    change-requires
     goes-requires
     stopped-at-requires
     same-length
@@ -144,7 +144,7 @@ follow-spec =
     add-n
     loop-less
     loop-again
-    step-requires
+    still-requires
     goes-requires-2
     stopped-at-requires-2
     same-length-2

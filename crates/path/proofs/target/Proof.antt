@@ -21,8 +21,8 @@ others (On d) n h = absurd (no h)
   where
     no : OneOf (1 ∷ 2 ∷ 3 ∷ 4 ∷ 5 ∷ []) 0 → ⊥
     no = ⊎-elim (λ w. omega arith) (⊎-elim (λ w. omega arith) (⊎-elim (λ w. omega arith) (⊎-elim (λ w. omega arith) (λ w. omega arith))))
-others (Returned v) n h = refl
-others (Failed v) n h = refl
+others (Returned t w) n h = refl
+others (Failed t w) n h = refl
 others Vanished n h = refl
 others (Error e) n h = refl
 others (Fork t a b) n h = refl

@@ -41,8 +41,8 @@ walk-below t = and 5 walk-kinds.ps (falls 5 walk-kinds.ps _<_ μ-walk t) walk.Pr
 
 no-fork : (x : Next) → OneOf (0 ∷ 1 ∷ 2 ∷ 3 ∷ 4 ∷ []) (tagOf the-type x) → NoFork x
 no-fork (On d) h = isOn
-no-fork (Returned v) h = isReturned
-no-fork (Failed v) h = isFailed
+no-fork (Returned t w) h = isReturned
+no-fork (Failed t w) h = isFailed
 no-fork Vanished h = isVanished
 no-fork (Error e) h = isError
 no-fork (Fork t a b) h = absurd (no h)
