@@ -10,11 +10,9 @@ use lib.ListN.{length, getD, take, drop, set, length-take, drop-of-length-le, ta
 use lib.Dec.{eqb}
 use lib.Seq.{drop-cons, getD-take, take-suc-set, drop-set-lt, append-snoc, length-take-le}
 use Rattle.gil.specs.Machine as Machine
-use Rattle.gil.specs.Machine.{isAt, isBefore, cellAt, withoutCells}
+use Rattle.gil.specs.Machine.{isAt, cellAt, withoutCells}
 use Rattle.cells.specs.declared.Cell.{Cell}
-use Rattle.cells.specs.declared.Place.{Place}
-use Rattle.cells.specs.declared.Place.the-variants.{Holds, Free}
-use Rattle.cells.specs.Held.{cellOf, noCell, heldIn, fromIn, foundIn, placeFrom, shiftIn, insertIn}
+use Rattle.cells.specs.Held.{cellOf, noCell, heldIn, fromIn, foundIn, reaches, placeFrom, leads, shiftIn, insertIn}
 
 -- those in use from a place on: none past the end, else the one that stands there and those behind it
 module _ {A : Type 0} (i n : ℕ) (l : List A) where
@@ -48,31 +46,25 @@ module _ {T : Type 0} (l : ℕ) (c : Machine.Cell T) (cs : List (Machine.Cell T)
   unfolding withoutCells
   without-other e = ap (λ (b : Bool). elim b [ true ↦ withoutCells l cs | false ↦ c ∷ withoutCells l cs ]) e
 
-module _ (l q : ℕ) (k : ℕ) (c : Machine.Cell ℕ) (cs : List (Machine.Cell ℕ)) where
-  place-by : Bool → Bool → Place
-  place-by a b = elim a [ true ↦ Holds k | false ↦ elim b [ true ↦ Free k | false ↦ placeFrom l q (suc k) cs ] ]
+-- where the search ends
+module _ (s : Bool) (l q k : ℕ) (c : Machine.Cell ℕ) (cs : List (Machine.Cell ℕ)) where
+  pub place-here : reaches s l q c ≡ true → placeFrom s l q k (c ∷ cs) ≡ k
+  unfolding placeFrom
+  place-here e = ap (λ (b : Bool). elim b [ true ↦ k | false ↦ placeFrom s l q (suc k) cs ]) e
 
-  pub place-here : isAt l q c ≡ true → placeFrom l q k (c ∷ cs) ≡ Holds k
-  unfolding placeFrom place-by
-  place-here e = ap (λ (a : Bool). place-by a (isBefore l q c)) e
-
-  pub place-before : isAt l q c ≡ false → isBefore l q c ≡ true → placeFrom l q k (c ∷ cs) ≡ Free k
-  unfolding placeFrom place-by
-  place-before e f = ap₂ (λ (a b : Bool). place-by a b) e f
-
-  pub place-later : isAt l q c ≡ false → isBefore l q c ≡ false → placeFrom l q k (c ∷ cs) ≡ placeFrom l q (suc k) cs
-  unfolding placeFrom place-by
-  place-later e f = ap₂ (λ (a b : Bool). place-by a b) e f
+  pub place-later : reaches s l q c ≡ false → placeFrom s l q k (c ∷ cs) ≡ placeFrom s l q (suc k) cs
+  unfolding placeFrom
+  place-later e = ap (λ (b : Bool). elim b [ true ↦ k | false ↦ placeFrom s l q (suc k) cs ]) e
 
 -- a loop that stands at place i: nothing is left
 module _ (i n : ℕ) (cells : List Cell) where
-  pub found-none : (l q : ℕ) → drop i (take n cells) ≡ [] → foundIn (cellAt l q (fromIn i n cells)) ≡ 0
-  unfolding cellAt
-  found-none l q e = ap (λ (cs : List Cell). foundIn (cellAt l q (map cellOf cs))) e
-
-  pub place-none : (l q : ℕ) → drop i (take n cells) ≡ [] → placeFrom l q i (fromIn i n cells) ≡ Free i
+  pub place-none : (s : Bool) (l q : ℕ) → drop i (take n cells) ≡ [] → placeFrom s l q i (fromIn i n cells) ≡ i
   unfolding placeFrom
-  place-none l q e = ap (λ (cs : List Cell). placeFrom l q i (map cellOf cs)) e
+  place-none s l q e = ap (λ (cs : List Cell). placeFrom s l q i (map cellOf cs)) e
+
+  pub leads-none : (l q : ℕ) → drop i (take n cells) ≡ [] → leads l q (fromIn i n cells) ≡ false
+  unfolding leads
+  leads-none l q e = ap (λ (cs : List Cell). leads l q (map cellOf cs)) e
 
   pub without-none : (l : ℕ) → drop i (take n cells) ≡ [] → withoutCells l (fromIn i n cells) ≡ []
   unfolding withoutCells
@@ -83,27 +75,23 @@ module _ (i n : ℕ) (cells : List Cell) where
     split : fromIn i n cells ≡ cellOf (getD cells i noCell) ∷ fromIn (i + 1) n cells
     split = ap (map cellOf) (from-more i n cells noCell hn hl)
 
-    pub found-here : (l q : ℕ) → isAt l q (cellOf (getD cells i noCell)) ≡ true
-        → foundIn (cellAt l q (fromIn i n cells)) ≡ getD cells i noCell .value
-    found-here l q e = ap (λ (cs : List (Machine.Cell ℕ)). foundIn (cellAt l q cs)) split ∙ ap foundIn (at-here l q _ _ e)
+    pub leads-here : (l q : ℕ) → leads l q (fromIn i n cells) ≡ isAt l q (cellOf (getD cells i noCell))
+    unfolding leads
+    leads-here l q = ap (leads l q) split
 
-    pub found-later : (l q : ℕ) → isAt l q (cellOf (getD cells i noCell)) ≡ false
-        → foundIn (cellAt l q (fromIn i n cells)) ≡ foundIn (cellAt l q (fromIn (i + 1) n cells))
-    found-later l q e = ap (λ (cs : List (Machine.Cell ℕ)). foundIn (cellAt l q cs)) split ∙ ap foundIn (at-later l q _ _ e)
+    pub found-here : (l q : ℕ) → leads l q (fromIn i n cells) ≡ true → foundIn (cellAt l q (fromIn i n cells)) ≡ getD cells i noCell .value
+    found-here l q e =
+        ap (λ (cs : List (Machine.Cell ℕ)). foundIn (cellAt l q cs)) split ∙ ap foundIn (at-here l q _ _ (sym (leads-here l q) ∙ e))
 
-    pub placed-here : (l q : ℕ) → isAt l q (cellOf (getD cells i noCell)) ≡ true → placeFrom l q i (fromIn i n cells) ≡ Holds i
-    placed-here l q e = ap (placeFrom l q i) split ∙ place-here l q i _ _ e
+    pub placed-here : (s : Bool) (l q : ℕ) → reaches s l q (cellOf (getD cells i noCell)) ≡ true → placeFrom s l q i (fromIn i n cells) ≡ i
+    placed-here s l q e = ap (placeFrom s l q i) split ∙ place-here s l q i _ _ e
 
-    pub placed-before : (l q : ℕ) → isAt l q (cellOf (getD cells i noCell)) ≡ false → isBefore l q (cellOf (getD cells i noCell)) ≡ true
-        → placeFrom l q i (fromIn i n cells) ≡ Free i
-    placed-before l q e f = ap (placeFrom l q i) split ∙ place-before l q i _ _ e f
-
-    pub placed-later : (l q : ℕ) → isAt l q (cellOf (getD cells i noCell)) ≡ false → isBefore l q (cellOf (getD cells i noCell)) ≡ false
-        → placeFrom l q i (fromIn i n cells) ≡ placeFrom l q (i + 1) (fromIn (i + 1) n cells)
-    placed-later l q e f =
-        ap (placeFrom l q i) split
-        ∙ place-later l q i _ _ e f
-        ∙ ap (λ (k : ℕ). placeFrom l q k (fromIn (i + 1) n cells)) (sym (add-one i))
+    pub placed-later : (s : Bool) (l q : ℕ) → reaches s l q (cellOf (getD cells i noCell)) ≡ false
+        → placeFrom s l q i (fromIn i n cells) ≡ placeFrom s l q (i + 1) (fromIn (i + 1) n cells)
+    placed-later s l q e =
+        ap (placeFrom s l q i) split
+        ∙ place-later s l q i _ _ e
+        ∙ ap (λ (k : ℕ). placeFrom s l q k (fromIn (i + 1) n cells)) (sym (add-one i))
 
     pub taken-out : (l : ℕ) → eqb l (getD cells i noCell .location .0) ≡ true
         → withoutCells l (fromIn i n cells) ≡ withoutCells l (fromIn (i + 1) n cells)
