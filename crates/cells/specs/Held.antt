@@ -1,5 +1,5 @@
 -- The cells in use, as the machine's cells: a value is its word. Assumes nothing.
-use Prim.Native.Nat.{ℕ, zero, suc, _+_, _-_, min}
+use Prim.Native.Nat.{ℕ, zero, suc, _+_, _-_}
 use mathlib.Core.Bool.{Bool, true, false, _&&_, _||_}
 use mathlib.Core.List.{List, [], _∷_, _++_, map}
 use mathlib.Core.Option.{Option, none, some}
@@ -52,6 +52,6 @@ shiftIn zero c l = l
 shiftIn (suc k) c [] = []
 shiftIn (suc k) c (x ∷ l) = c ∷ shiftIn k x l
 
--- a cell put in at a place, the cells in use from there on moved up
-unfoldable pub insertIn : ℕ → ℕ → Cell → List Cell → List Cell
-insertIn held at c cells = take at cells ++ shiftIn (min (held + 1) 32 - at) c (drop at cells)
+-- a cell put in at a place, the cells from there up to the place `last` moved up
+unfoldable pub carriedIn : ℕ → ℕ → Cell → List Cell → List Cell
+carriedIn at last c cells = take at cells ++ shiftIn (last + 1 - at) c (drop at cells)

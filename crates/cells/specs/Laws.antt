@@ -1,18 +1,20 @@
 -- Laws of the cells in use that the loops go by. Assumes nothing.
-use Prim.Native.Nat.{ℕ, suc, _+_, _-_, _<_, _≤_, min}
+use Prim.Native.Nat.{ℕ, suc, _+_, _-_, _<_, _≤_}
 use mathlib.Core.Bool.{Bool, true, false}
-use mathlib.Core.Path.{_≡_, sym, _∙_, ap, ap₂}
+use mathlib.Core.Path.{_≡_, refl, sym, _∙_, ap, ap₂}
 use mathlib.Core.List.{List, [], _∷_, _++_, map, map-append, append-nil}
 use mathlib.Core.Option.{some}
 use native.Mathlib.Numerals.{add-one}
 use native.Mathlib.Omega.{arith}
 use lib.ListN.{length, getD, take, drop, set, length-take, drop-of-length-le, take-append-drop, length-map}
-use lib.Dec.{eqb}
+use lib.Dec.{eqb, ltb}
 use lib.Seq.{drop-cons, getD-take, take-suc-set, drop-set-lt, append-snoc, length-take-le}
+use borrow.Author.Tests.{ltb-true, ltb-false}
+use Rattle.gil.specs.Theory.Tests.{no-false}
 use Rattle.gil.specs.Machine as Machine
 use Rattle.gil.specs.Machine.{isAt, cellAt, withoutCells}
 use Rattle.cells.specs.declared.Cell.{Cell}
-use Rattle.cells.specs.Held.{cellOf, noCell, heldIn, fromIn, foundIn, reaches, placeFrom, leads, shiftIn, insertIn}
+use Rattle.cells.specs.Held.{cellOf, noCell, heldIn, fromIn, foundIn, reaches, placeFrom, leads, shiftIn, carriedIn}
 
 -- those in use from a place on: none past the end, else the one that stands there and those behind it
 module _ {A : Type 0} (i n : ℕ) (l : List A) where
@@ -101,16 +103,26 @@ module _ (i n : ℕ) (cells : List Cell) where
         → withoutCells l (fromIn i n cells) ≡ cellOf (getD cells i noCell) ∷ withoutCells l (fromIn (i + 1) n cells)
     left-in l e = ap (withoutCells l) split ∙ without-other l _ _ e
 
+-- whether the cell sought stands at a place says that there is one
+pub leads-inside : (l q i n : ℕ) (cells : List Cell) → leads l q (fromIn i n cells) ≡ true → (i < n) × (i < length cells)
+leads-inside l q i n cells t = (within (ltb i n) refl, there (ltb i (length cells)) refl)
+  where
+    within : (b : Bool) → ltb i n ≡ b → i < n
+    within true e = ltb-true i n e
+    within false e = no-false t (leads-none i n cells l q (from-none i n cells (ltb-false i n e)))
+
+    there : (b : Bool) → ltb i (length cells) ≡ b → i < length cells
+    there true e = ltb-true i (length cells) e
+    there false e = no-false t (leads-none i n cells l q (from-end i n cells (ltb-false i (length cells) e)))
+
 -- a cell carried upward by one
-module _ (held : ℕ) (i : ℕ) (c : Cell) (out : List Cell) where
-  pub carried-up : i < 32 → i ≤ held → length out ≡ 32
-      → insertIn held i c out ≡ insertIn held (i + 1) (getD out i noCell) (set out i c)
-  unfolding insertIn shiftIn
-  carried-up h k len =
+module _ (last : ℕ) (i : ℕ) (c : Cell) (out : List Cell) where
+  pub carried-up : i ≤ last → i < length out → carriedIn i last c out ≡ carriedIn (i + 1) last (getD out i noCell) (set out i c)
+  unfolding carriedIn shiftIn
+  carried-up h inside =
       let x = getD out i noCell in
-      let n = min (held + 1) 32 - (i + 1) in
-      let e : min (held + 1) 32 - i ≡ suc n = omega arith in
-      let inside : i < length out = omega arith in
+      let n = last + 1 - (i + 1) in
+      let e : last + 1 - i ≡ suc n = omega arith in
       let f : drop i out ≡ x ∷ drop (suc i) out = drop-cons out i noCell inside in
       let g : drop (suc i) (set out i c) ≡ drop (suc i) out = drop-set-lt (suc i) out i c (omega arith) in
       let t : take (suc i) (set out i c) ≡ take i out ++ (c ∷ []) = take-suc-set out i c inside in
@@ -119,10 +131,10 @@ module _ (held : ℕ) (i : ℕ) (c : Cell) (out : List Cell) where
       ∙ ap₂ (λ (a b : List Cell). a ++ shiftIn n x b) (sym t) (sym g)
       ∙ ap (λ (j : ℕ). take j (set out i c) ++ shiftIn n x (drop j (set out i c))) (sym (add-one i))
 
-  pub carried-all : min (held + 1) 32 ≤ i → insertIn held i c out ≡ out
-  unfolding insertIn shiftIn
+  pub carried-all : last < i → carriedIn i last c out ≡ out
+  unfolding carriedIn shiftIn
   carried-all h =
-      let e : min (held + 1) 32 - i ≡ 0 = omega arith in
+      let e : last + 1 - i ≡ 0 = omega arith in
       ap (λ (m : ℕ). take i out ++ shiftIn m c (drop i out)) e ∙ take-append-drop i out
 
 -- the cells kept so far, and one more; at the end they are all

@@ -3,7 +3,7 @@
 -- Assumes nothing.
 use Prim.Native.Nat.{ℕ, _<_}
 use mathlib.Core.Bool.{Bool, true, false, _&&_, _||_}
-use mathlib.Core.Path.{_≡_, refl, sym, _∙_, ap}
+use mathlib.Core.Path.{_≡_, refl, sym, _∙_, ap, subst₂}
 use mathlib.Core.Logic.{_⊎_, inl, inr}
 use mathlib.Core.List.{List, [], _∷_}
 use mathlib.Core.Option.{none, some}
@@ -11,7 +11,7 @@ use native.Mathlib.Omega.{arith}
 use lib.Dec.{ltb, eqb}
 use borrow.Author.Tests.{ltb-true, ltb-false, eqb-true, eqb-false, lt-ltb, le-ltb, eq-eqb, ne-eqb}
 use Rattle.gil.specs.Values.{Value}
-use Rattle.gil.specs.Theory.Tests.{no-false}
+use Rattle.gil.specs.Theory.Tests.{chosen, no-false}
 use Rattle.gil.specs.Machine.{Cell, isAt, isBefore, cellAt, putCell, withoutCells}
 
 -- the place (l, q) comes before every cell
@@ -103,3 +103,46 @@ beyond-none l q c cs (behind d ds a o) b =
 
 pub ordered-tail : {T : Type 0} {c : Cell T} {cs : List (Cell T)} → Ordered (c ∷ cs) → Ordered cs
 ordered-tail (behind d ds a o) = o
+
+-- ---- what keeps the order
+module _ {T : Type 0} (l : ℕ) where
+  ahead-without : (m p : ℕ) (cs : List (Cell T)) → Ahead m p cs → Ahead m p (withoutCells l cs)
+  unfolding withoutCells
+  ahead-without m p [] a = last
+  ahead-without m p (c ∷ cs) (ahead d ds b a) =
+      chosen (Ahead m p) (eqb l (c .location)) (λ _. ahead-without m p cs a) (λ _. ahead c (withoutCells l cs) b (ahead-without m p cs a))
+
+  pub without-keeps : (cs : List (Cell T)) → Ordered cs → Ordered (withoutCells l cs)
+  unfolding withoutCells
+  without-keeps [] o = empty
+  without-keeps (c ∷ cs) (behind d ds a o) =
+      chosen Ordered (eqb l (c .location)) (λ _. without-keeps cs o)
+      (λ _. behind c (withoutCells l cs) (ahead-without (c .location) (c .property) cs a) (without-keeps cs o))
+
+module _ {T : Type 0} (l q : ℕ) (v : Value T) where
+  abbrev new : Cell T
+  new = record { location = l; property = q; value = v }
+
+  there : (c : Cell T) → isAt l q c ≡ true → (l ≡ c .location) × (q ≡ c .property)
+  unfolding isAt
+  there c e =
+      let b = both (eqb l (c .location)) (eqb q (c .property)) e in
+      (eqb-true l (c .location) (b .0), eqb-true q (c .property) (b .1))
+
+  ahead-put : (m p : ℕ) → Less m p l q → (cs : List (Cell T)) → Ahead m p cs → Ahead m p (putCell l q v cs)
+  unfolding putCell
+  ahead-put m p h [] a = ahead new [] (before m p new h) last
+  ahead-put m p h (c ∷ cs) (ahead d ds b a) =
+      chosen (Ahead m p) (isAt l q c) (λ _. ahead new cs (before m p new h) a)
+      (λ _. chosen (Ahead m p) (isBefore l q c) (λ _. ahead new (c ∷ cs) (before m p new h) (ahead c cs b a))
+      (λ _. ahead c (putCell l q v cs) b (ahead-put m p h cs a)))
+
+  pub put-keeps : (cs : List (Cell T)) → Ordered cs → Ordered (putCell l q v cs)
+  unfolding putCell
+  put-keeps [] o = behind new [] last empty
+  put-keeps (c ∷ cs) (behind d ds a o) =
+      chosen Ordered (isAt l q c)
+      (λ e. behind new cs (subst₂ (λ (m p : ℕ). Ahead m p cs) (sym (there c e .0)) (sym (there c e .1)) a) o)
+      (λ e. chosen Ordered (isBefore l q c)
+      (λ f. behind new (c ∷ cs) (ahead c cs f (ahead-trans l q (c .location) (c .property) (less l q c f) cs a)) (behind c cs a o))
+      (λ f. behind c (putCell l q v cs) (ahead-put (c .location) (c .property) (past l q c e f) cs a) (put-keeps cs o)))

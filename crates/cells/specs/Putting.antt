@@ -15,8 +15,8 @@ use Rattle.gil.specs.Theory.Tests.{no-false}
 use Rattle.gil.specs.Machine as Machine
 use Rattle.gil.specs.Machine.{isAt, isBefore, cellAt, putCell}
 use Rattle.cells.specs.declared.Cell.{Cell}
-use Rattle.cells.specs.Held.{cellOf, noCell, heldIn, fromIn, foundIn, reaches, placeFrom, leads, shiftIn, insertIn}
-use Rattle.cells.specs.Laws.{at-later, place-here, place-later, found-here}
+use Rattle.cells.specs.Held.{cellOf, noCell, heldIn, fromIn, foundIn, reaches, placeFrom, leads, shiftIn, carriedIn}
+use Rattle.cells.specs.Laws.{at-later, place-here, place-later, found-here, leads-inside, carried-up, carried-all}
 use Rattle.cells.specs.Order.{Ordered, beyond-none, ordered-tail}
 
 abbrev cell : ℕ → ℕ → Value ℕ → Machine.Cell ℕ
@@ -131,12 +131,12 @@ drop-of-take i k l h =
     let e : length (take i l) ≡ i = length-take-le i l h in
     ap₂ (λ (n : ℕ) (m : List _). drop n m) (sym e) (take-add i k l) ∙ drop-append-seam (take i l) (take k (drop i l))
 
-inserted : (held i : ℕ) (c : Cell) (cells : List Cell) → length cells ≡ 32 → i ≤ held → held < 32
-    → take (held + 1) (insertIn held i c cells) ≡ take i (take held cells) ++ c ∷ drop i (take held cells)
-unfolding insertIn
-inserted held i c cells whole low high =
+inserted : (held i : ℕ) (c : Cell) (cells : List Cell) → i ≤ held → held < length cells
+    → take (held + 1) (carriedIn i held c cells) ≡ take i (take held cells) ++ c ∷ drop i (take held cells)
+unfolding carriedIn
+inserted held i c cells low high =
     let k = held - i in
-    let e : min (held + 1) 32 - i ≡ suc k = omega arith in
+    let e : held + 1 - i ≡ suc k = omega arith in
     let f : held + 1 ≡ length (take i cells) + suc k = omega (arith, length-take-le i cells (omega arith)) in
     let g : held ≡ i + k = omega arith in
     let h : k < length (drop i cells) = omega (arith, length-drop i cells) in
@@ -145,6 +145,11 @@ inserted held i c cells whole low high =
     ∙ ap (λ (r : List Cell). take i cells ++ r) (shift-take k c (drop i cells) h)
     ∙ ap₂ (λ (a b : List Cell). a ++ c ∷ b) (sym (take-take i held cells low))
     (sym (ap (λ (n : ℕ). drop i (take n cells)) g ∙ drop-of-take i k cells (omega arith)))
+
+-- carried no further than its own place, a cell takes the place of the one that stands there
+replaced : (i : ℕ) (c : Cell) (cells : List Cell) → i < length cells → carriedIn i i c cells ≡ set cells i c
+replaced i c cells h =
+    carried-up i i c cells (omega arith) h ∙ carried-all i (i + 1) (getD cells i noCell) (set cells i c) (omega arith)
 
 -- no more than there are
 pub used-all : (held : ℕ) (cells : List Cell) → length cells ≡ 32 → heldIn (min held 32) cells ≡ heldIn held cells
@@ -163,15 +168,9 @@ module _ (s : Bool) (l q i held : ℕ) (cells : List Cell) (e : i ≡ placeFrom 
   same-place : leads l q (drop i (heldIn held cells)) ≡ leads l q (fromIn i held cells)
   same-place = ap (leads l q) (sym (map-drop cellOf i (take held cells)))
 
-  pub found-inside : leads l q (fromIn i held cells) ≡ true → (i < held) × (i < length cells)
-  found-inside t =
-      let h : i < length (heldIn held cells) = hits-at s l q (heldIn held cells) i at-place e (same-place ∙ t) .0 in
-      let n : length (heldIn held cells) ≡ min held (length cells) = length-map (take held cells) cellOf ∙ length-take held cells in
-      (omega (arith, h, n), omega (arith, h, n))
-
   pub found-value : leads l q (fromIn i held cells) ≡ true → foundIn (cellAt l q (heldIn held cells)) ≡ getD cells i noCell .value
   found-value t =
-      let h = found-inside t in
+      let h = leads-inside l q i held cells t in
       ap foundIn (hits-at s l q (heldIn held cells) i at-place e (same-place ∙ t) .1)
       ∙ ap (λ (cs : List (Machine.Cell ℕ)). foundIn (cellAt l q cs)) (sym (map-drop cellOf i (take held cells)))
       ∙ found-here i held cells (h .0) (h .1) l q t
@@ -216,26 +215,27 @@ module _ (l q i held : ℕ) (cells : List Cell) (whole : length cells ≡ 32) (f
       )
 
   pub put-holds : (v : ℕ) → leads l q (fromIn i held cells) ≡ true
-      → heldIn (length (putCell l q (term v) (heldIn held cells))) (set cells i (record { location = record { 0 = l }; property = q; value = v }))
+      → heldIn (length (putCell l q (term v) (heldIn held cells))) (carriedIn i i (record { location = record { 0 = l }; property = q; value = v }) cells)
       ≡ putCell l q (term v) (heldIn held cells)
   put-holds v t =
       let c : Cell = record { location = record { 0 = l }; property = q; value = v } in
       let s = held-there t in
-      ap (λ (n : ℕ). heldIn n (set cells i c)) (sym (grown-holds (term v) t))
+      ap (λ (n : ℕ). heldIn n (carriedIn i i c cells)) (sym (grown-holds (term v) t))
+      ∙ ap (heldIn held) (replaced i c cells (omega (arith, s .0, in-use)))
       ∙ ap (map cellOf) (take-set-lt held cells i c (omega (arith, s .0, in-use)))
       ∙ map-set cellOf (take held cells) i c
       ∙ sym (s .1 (term v))
 
   pub put-free : (v : ℕ) → leads l q (fromIn i held cells) ≡ false
       → length (putCell l q (term v) (heldIn held cells)) ≤ 32
-      → heldIn (length (putCell l q (term v) (heldIn held cells))) (insertIn held i (record { location = record { 0 = l }; property = q; value = v }) cells)
+      → heldIn (length (putCell l q (term v) (heldIn held cells))) (carriedIn i held (record { location = record { 0 = l }; property = q; value = v }) cells)
       ≡ putCell l q (term v) (heldIn held cells)
   put-free v t room =
       let c : Cell = record { location = record { 0 = l }; property = q; value = v } in
       let s = free-there t in
       let g : held + 1 ≡ length (putCell l q (term v) (heldIn held cells)) = grown-free (term v) t in
-      ap (λ (n : ℕ). heldIn n (insertIn held i c cells)) (sym g)
-      ∙ ap (map cellOf) (inserted held i c cells whole (omega (arith, s .0, in-use)) (omega arith))
+      ap (λ (n : ℕ). heldIn n (carriedIn i held c cells)) (sym g)
+      ∙ ap (map cellOf) (inserted held i c cells (omega (arith, s .0, in-use)) (omega arith))
       ∙ map-append cellOf (take i (take held cells)) (c ∷ drop i (take held cells))
       ∙ ap₂ (λ (a b : List (Machine.Cell ℕ)). a ++ cellOf c ∷ b) (map-take cellOf i (take held cells)) (map-drop cellOf i (take held cells))
       ∙ sym (s .1 (term v))

@@ -4,11 +4,11 @@
 // (specs/Held.antt); nothing here needs them to be in order, and specs/Order.antt says that they stay so.
 ghost use mathlib.Core.Path.{_≡_};
 ghost use mathlib.Core.Bool.{true, false};
-ghost use Prim.Native.Nat.{_≤_, min};
-ghost use lib.ListN.{length, set};
+ghost use Prim.Native.Nat.{_<_, _≤_, min};
+ghost use lib.ListN.{length};
 ghost use Rattle.gil.specs.Machine.{isAt, isBefore, cellAt, putCell, withoutCells};
 ghost use Rattle.gil.specs.Values.{term};
-ghost use Rattle.cells.specs.Held.{cellOf, heldIn, fromIn, foundIn, reaches, placeFrom, leads, insertIn};
+ghost use Rattle.cells.specs.Held.{cellOf, heldIn, fromIn, foundIn, reaches, placeFrom, leads, carriedIn};
 use values::Location;
 
 pub const CELLS: usize = 32;
@@ -85,6 +85,30 @@ fn place(cells: [Cell; CELLS], held: usize, l: Location, q: u32, stops: bool) ->
     search(&cells, held, l, q, stops)
 }
 
+// A cell put in at a place; those from there up to `last` move up by one, and the last of them drops out
+fn insert(cells: &mut [Cell], at: usize, last: usize, cell: Cell)
+    requires { ⌜ last < length (now cells) ⌝ }
+    ensures { λ _. ⌜ now (cells .exit) ≡ carriedIn at last cell (now (cells .entry)) ⌝ }
+{
+    let mut carried = cell;
+    let mut i = at;
+    while i <= last {
+        let next = cells[i];
+        cells[i] = carried;
+        carried = next;
+        i += 1;
+    }
+}
+
+fn carry(cells: [Cell; CELLS], at: usize, last: usize, cell: Cell) -> [Cell; CELLS]
+    requires { ⌜ last < 32 ⌝ }
+    ensures { λ r. ⌜ r ≡ carriedIn at last cell cells ⌝ }
+{
+    let mut out = cells;
+    insert(&mut out, at, last, cell);
+    out
+}
+
 fn used(held: usize) -> usize
     ensures { λ r. ⌜ r ≡ min held 32 ⌝ }
 {
@@ -146,34 +170,6 @@ pub fn grown(cells: [Cell; CELLS], held: usize, l: Location, q: u32) -> usize
     grown_at(cells, held, place_of(cells, held, l, q), l, q)
 }
 
-fn replace(cells: [Cell; CELLS], at: usize, c: Cell) -> [Cell; CELLS]
-    ensures { λ r. ⌜ r ≡ set cells at c ⌝ }
-{
-    let mut out = cells;
-    if at < CELLS {
-        out[at] = c;
-    }
-    out
-}
-
-fn insert(cells: [Cell; CELLS], held: usize, at: usize, cell: Cell) -> [Cell; CELLS]
-    ensures { λ r. ⌜ r ≡ insertIn held at cell cells ⌝ }
-{
-    let mut out = cells;
-    let mut carried = cell;
-    let mut i = at;
-    while i < CELLS {
-        if held < i {
-            return out;
-        }
-        let next = out[i];
-        out[i] = carried;
-        carried = next;
-        i += 1;
-    }
-    out
-}
-
 // "`mutate` writes the cell, adding it if absent": the cells after it is put at its place, where there is room
 pub fn put_at(
     cells: [Cell; CELLS],
@@ -191,9 +187,12 @@ pub fn put_at(
         value: v,
     };
     if holds(cells, held, at, l, q) {
-        return replace(cells, at, cell);
+        return carry(cells, at, at, cell);
     }
-    insert(cells, held, at, cell)
+    if held < CELLS {
+        return carry(cells, at, held, cell);
+    }
+    cells
 }
 
 pub fn put(cells: [Cell; CELLS], held: usize, l: Location, q: u32, v: u64) -> [Cell; CELLS]

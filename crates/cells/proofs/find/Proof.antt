@@ -3,7 +3,8 @@ use mathlib.Core.Path.{_≡_, refl, sym, _∙_, ap}
 use Prim.Native.Nat.{_<_}
 use lib.ListN.{length}
 use native.Mathlib.Omega.{arith}
-use Rattle.cells.specs.Putting.{found-inside, found-value, found-nothing}
+use Rattle.cells.specs.Laws.{leads-inside}
+use Rattle.cells.specs.Putting.{found-value, found-nothing}
 use borrow.Author.Needs.{needs}
 use Rattle.cells.proofs.find.Statement.{statement}
 use Rattle.cells.proofs.find.Tie as tie
@@ -23,12 +24,12 @@ holds-requires c κs = search needs
 -- src/lib.rt:120:17
 mul-c : tie.Need-mul-c
 mul-c c = let whole : length (c .before .before .before .args .t1) ≡ 32 = search needs in
-    omega (arith, found-inside false (c .before .before .before .args .l .0) (c .before .before .before .args .q) _ (c .before .before .before .args .held) (c .before .before .before .args .t1) (c .before .before .place-in .ensures) (sym (c .before .holds .ensures) ∙ c .if1 .taken) .1)
+    omega (arith, leads-inside (c .before .before .before .args .l .0) (c .before .before .before .args .q) (c .before .before .place-in .result) (c .before .before .before .args .held) (c .before .before .before .args .t1) (sym (c .before .holds .ensures) ∙ c .if1 .taken) .1)
 
 -- src/lib.rt:120:17
 array-copy-out-c : tie.Need-array-copy-out-c
 array-copy-out-c c = let whole : length (c .before .before .before .args .t1) ≡ 32 = search needs in
-    omega (arith, found-inside false (c .before .before .before .args .l .0) (c .before .before .before .args .q) _ (c .before .before .before .args .held) (c .before .before .before .args .t1) (c .before .before .place-in .ensures) (sym (c .before .holds .ensures) ∙ c .if1 .taken) .1)
+    omega (arith, leads-inside (c .before .before .before .args .l .0) (c .before .before .before .args .q) (c .before .before .place-in .result) (c .before .before .before .args .held) (c .before .before .before .args .t1) (sym (c .before .holds .ensures) ∙ c .if1 .taken) .1)
 
 -- src/lib.rt:121:9
 returns : tie.Need-returns
