@@ -1,0 +1,51 @@
+use mathlib.Core.Path.{_≡_, refl, sym, _∙_, ap}
+use Prim.Native.Nat.{_<_}
+use lib.ListN.{length}
+use mathlib.Core.List.{List}
+use native.Mathlib.Omega.{arith}
+use Rattle.gil.specs.Values.{term}
+use Rattle.gil.specs.Machine.{putCell}
+use Rattle.cells.specs.declared.Cell.{Cell}
+use Rattle.cells.specs.Held.{heldIn}
+use Rattle.cells.specs.Laws.{leads-inside}
+use Rattle.cells.specs.Putting.{grown-free, put-holds, put-free}
+use borrow.Author.Needs.{needs}
+use Rattle.cells.proofs.put_at.Statement.{statement}
+use Rattle.cells.proofs.put_at.Tie as tie
+use Rattle.cells.proofs.put_at.Reads as reads
+use Rattle.cells.proofs.put_at.Lts as lts
+use Rattle.cells.proofs.carry.Reads as carry-reads
+use Rattle.cells.proofs.holds.Reads as holds-reads
+
+-- src/lib.rt:189:8
+holds-requires : tie.Need-holds-requires
+holds-requires c κs = search needs
+
+-- src/lib.rt:190:9
+carry-requires : tie.Need-carry-requires
+carry-requires c κs = let whole : length (c .before .before .args .cells) ≡ 32 = search needs in
+    let there : c .before .before .args .at < length (c .before .before .args .cells) = leads-inside (c .before .before .args .l .0) (c .before .before .args .q) (c .before .before .args .at) (c .before .before .args .held) (c .before .before .args .cells) (sym (c .before .holds .ensures) ∙ c .if1 .taken) .1 in
+    omega arith
+
+-- src/lib.rt:190:9
+returns : tie.Need-returns
+returns c = let whole : length (c .before .before .before .args .cells) ≡ 32 = search needs in
+    λ e few room. ap (λ (r : List Cell). heldIn (length (putCell (c .before .before .before .args .l .0) (c .before .before .before .args .q) (term (c .before .before .before .args .v)) (heldIn (c .before .before .before .args .held) (c .before .before .before .args .cells)))) r) (c .carry .ensures) ∙ put-holds _ _ _ _ _ whole few e _ (sym (c .before .before .holds .ensures) ∙ c .before .if1 .taken)
+
+-- src/lib.rt:193:9
+carry-requires-2 : tie.Need-carry-requires-2
+carry-requires-2 c κs = search needs
+
+-- src/lib.rt:193:9
+returns-2 : tie.Need-returns-2
+returns-2 c = let whole : length (c .before .before .before .before .args .cells) ≡ 32 = search needs in
+    λ e few room. ap (λ (r : List Cell). heldIn (length (putCell (c .before .before .before .before .args .l .0) (c .before .before .before .before .args .q) (term (c .before .before .before .before .args .v)) (heldIn (c .before .before .before .before .args .held) (c .before .before .before .before .args .cells)))) r) (c .carry2 .ensures) ∙ put-free _ _ _ _ _ whole few e _ (sym (c .before .before .before .holds .ensures) ∙ c .before .before .if1 .left) room
+
+-- src/lib.rt:174:1
+returns-3 : tie.Need-returns-3
+returns-3 c = let whole : length (c .before .before .before .args .cells) ≡ 32 = search needs in
+    λ e few room. absurd (omega (arith, room, c .if2 .left, grown-free (c .before .before .before .args .l .0) (c .before .before .before .args .q) (c .before .before .before .args .at) (c .before .before .before .args .held) (c .before .before .before .args .cells) whole few e (term (c .before .before .before .args .v)) (sym (c .before .before .holds .ensures) ∙ c .before .if1 .left)))
+
+pub put-at-spec : {M : Type 1} → statement M
+put-at-spec =
+    tie.close (tie.spec holds-requires carry-requires returns carry-requires-2 returns-2 returns-3)
