@@ -9,7 +9,7 @@ use lib.Dec.{ltb}
 use borrow.Author.Tests.{ltb-false, not-false}
 use Rattle.gil.specs.Text.{bytes}
 use Rattle.gil.specs.Tree.{Cmd, Proc, Name}
-use Rattle.gil.specs.Reading.{Read, procedures}
+use Rattle.gil.specs.Reading.{Read, read, procedures}
 use Rattle.gil.specs.Names.{any, gather, has, placeOf, cmdProperties, cmdCalls, procVars, properties, procNames, overLimits, repeated, wrongNames, wrongJump, wrongEnd, Program, numberProc, numberProgram, Checked, refused, accepted, refusedIf, tested, checkText}
 use Rattle.code.specs.Code.{allCommands}
 use Rattle.code.specs.WellFormed.{Each, WellFormed}
@@ -74,6 +74,10 @@ names-kept ps e =
       main = not-false _ main;
     }
 
+pub once-each : (ps : List (Proc Name)) → wrongNames ps ≡ false → repeated (procNames ps) ≡ false
+unfolding wrongNames
+once-each ps e = or-false (repeated (procNames ps)) _ (or-false _ _ e .0) .0
+
 -- each property is among the distinct ones
 pub properties-known : (ps : List (Proc Name)) → Each (λ p. Each (λ c. Known (properties ps) (cmdProperties c)) (p .body)) ps
 unfolding properties
@@ -110,28 +114,54 @@ unfolding refusedIf
 not-refused true n t e = (cc, cc)
 not-refused false n t e = (refl, e)
 
-tested-well-formed :
+-- what is known of an accepted text
+pub record Passed (s : List ℕ) (p : Program) : Type 0 where
+  pub procs : List (Proc Name)
+  pub next : ℕ
+  pub is : procedures s ≡ read procs next
+  pub small : Each ProcSmall procs
+  pub size : total procSize procs ≤ 16384
+  pub limited : Limited procs
+  pub right : wrongNames procs ≡ false
+  pub numbered : p ≡ numberProgram procs
+
+tested-passed :
     (s : List ℕ)
     → length s ≤ 16384
     → {r : Read (List (Proc Name))}
+    → procedures s ≡ r
     → Given s (ItemsRead ProcSmall procSize 0) r
     → (p : Program)
     → tested r ≡ accepted p
-    → WellFormed p
+    → Passed s p
 unfolding tested
-tested-well-formed s few isFaulty p e = refused-not-accepted e
-tested-well-formed s few (isRead {a = ps} h q) p e =
+tested-passed s few is isFaulty p e = refused-not-accepted e
+tested-passed s few is (isRead {a = ps} h q) p e =
     let (limits, e₁) = not-refused (overLimits ps) 5 _ e in
     let (names, e₂) = not-refused (wrongNames ps) 6 _ e₁ in
     let (_, e₃) = not-refused (wrongJump ps) 7 _ e₂ in
     let (_, e₄) = not-refused (wrongEnd ps) 8 _ e₃ in
-    let same : numberProgram ps ≡ p = cc in
-    rw same at (numberProgram-well-formed ps (q .small) (omega arith) (limits-kept ps limits) (names-kept ps names))
+    record {
+      procs = ps;
+      next = _;
+      is = is;
+      small = q .small;
+      size = let t = q .takes in omega arith;
+      limited = limits-kept ps limits;
+      right = names;
+      numbered = cc;
+    }
+
+pub accepted-passed : (s : List ℕ) (p : Program) → checkText s ≡ accepted p → Passed s p
+unfolding checkText
+accepted-passed s p e =
+    choose (λ (c : Checked). c ≡ accepted p → Passed s p) (ltb 16384 (length s))
+    (λ _. refused-not-accepted)
+    (λ short. tested-passed s (ltb-false _ _ short) refl (procedures-given s) p)
+    e
+
+pub passed-well-formed : {s : List ℕ} {p : Program} → Passed s p → WellFormed p
+passed-well-formed a = rw (a .numbered) (numberProgram-well-formed (a .procs) (a .small) (a .size) (a .limited) (names-kept (a .procs) (a .right)))
 
 pub accepted-well-formed : (s : List ℕ) (p : Program) → checkText s ≡ accepted p → WellFormed p
-unfolding checkText
-accepted-well-formed s p e =
-    choose (λ (c : Checked). c ≡ accepted p → WellFormed p) (ltb 16384 (length s))
-    (λ _. refused-not-accepted)
-    (λ short. tested-well-formed s (ltb-false _ _ short) (procedures-given s) p)
-    e
+accepted-well-formed s p e = passed-well-formed (accepted-passed s p e)

@@ -1,3 +1,4 @@
 // Whole programs: the commands of a procedure, procedures, and the tests behind refusals 3 to 8, each over the whole text before the next.
+pub mod link;
 pub mod lists;
 pub mod verdict;

@@ -13,6 +13,8 @@ ghost use Rattle.names.specs.Tables.{Kept};
 ghost use Rattle.reader.specs.Goes.{Goes};
 ghost use Rattle.programs.specs.Procedures.{Tells};
 ghost use Rattle.programs.specs.Verdict.{anyLost, wrongWith};
+ghost use Rattle.programs.specs.Reads.{Reads, Finishes};
+use crate::link;
 use crate::lists;
 use crate::lists::Tally;
 
@@ -92,16 +94,46 @@ fn refusal(text: &[u8], t: Tally, props: &[u32; 33], calls: &[u32; 33], procs: &
     refused_if(over, 5, refused_if(wrong, 6, rest))
 }
 
-// Reads a text into the words of its program. The answer is the text's refusal, or 0.
-pub fn read_program(text: &[u8], code: &mut [u32; 18994]) -> u32
-    ensures { λ r. ⌜ r ≡ checkCall (now (text .entry)) ⌝ }
+// The end of reading: callees by their places among the procedures, and words 0 and 1, how many procedures there are and which is `main`.
+// The limits are those of an accepted text.
+fn finish(
+    text: &[u8],
+    code: &mut [u32; 18994],
+    commands: usize,
+    calls: &[u32; 33],
+    procs: &[u32; 33],
+)
+    ensures { λ _. ⌜ (length (now (calls .entry)) ≡ 33 → length (now (procs .entry)) ≡ 33 → commands ≤ 512 → getD (now (procs .entry)) 32 0 ≤ 16 → Finishes (now (text .entry)) (now (calls .entry)) (now (procs .entry)) commands (now (code .entry)) (now (code .exit))) ⌝ }
+{
+    let n = names::wide(procs[32]);
+    if n > 16 {
+        return;
+    }
+    if commands > 512 {
+        return;
+    }
+    link::link(text, code, commands, calls, procs, n);
+    let main = names::search(text, b"main", procs, n);
+    code[0] = n as u32;
+    code[1] = main as u32;
+}
+
+// Reads a text into the words of its program, and its procedures' names into a table; both are lent zeroed. The answer is the text's
+// refusal, or 0.
+pub fn read_program(text: &[u8], code: &mut [u32; 18994], names: &mut [u32; 33]) -> u32
+    ensures { λ r. ⌜ (now (code .entry) ≡ replicate 18994 0 → now (names .entry) ≡ replicate 33 0 → Reads (now (text .entry)) (now (code .exit)) (now (names .exit)) r) ⌝ }
 {
     if text.len() > 16384 {
         return 3;
     }
     let mut props = [0u32; 33];
     let mut calls = [0u32; 33];
-    let mut procs = [0u32; 33];
-    let t = lists::procedures_of(text, &mut props, &mut calls, &mut procs, code);
-    refusal(text, t, &props, &calls, &procs)
+    let t = lists::procedures_of(text, &mut props, &mut calls, names, code);
+    let commands = t.commands;
+    let r = refusal(text, t, &props, &calls, names);
+    if r != 0 {
+        return r;
+    }
+    finish(text, code, commands, &calls, names);
+    0
 }
