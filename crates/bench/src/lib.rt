@@ -8,5 +8,6 @@ pub extern "C" fn chomphurek_check(text: &[u8]) -> u32
     ensures { λ r. ⌜ r ≡ checkCall (now (text .entry)) ⌝ }
 {
     let mut code = [0u32; 18994];
-    programs::verdict::read_program(text, &mut code)
+    let mut names = [0u32; 33];
+    programs::verdict::read_program(text, &mut code, &mut names)
 }
