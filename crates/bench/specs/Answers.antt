@@ -1,11 +1,12 @@
 -- What each call answers, by the tests that it makes: the laws that the proofs of the exported calls cite. Assumes nothing.
 use Prim.Native.Nat.{ℕ, zero, suc, _+_, _≤_, _<_}
 use native.Mathlib.Omega.{arith}
-use mathlib.Core.Path.{_≡_, refl, sym, ap, _∙_}
-use mathlib.Core.Bool.{Bool, true, false, not, _&&_, _||_}
+use mathlib.Core.Path.{_≡_, refl, sym, ap, _∙_, subst}
+use mathlib.Core.Bool.{Bool, true, false, not, _&&_, _||_, true≢false, false≢true}
 use mathlib.Core.List.{List, [], _∷_, _++_}
 use lib.ListN.{length, drop, replicate}
 use lib.Dec.{ltb, leb, eqb}
+use borrow.Author.Tests.{eqb-true, not-false}
 use Rattle.gil.specs.Tree.{Proc, Name}
 use Rattle.gil.specs.Reading.{Read, faulty, read, procedures}
 use Rattle.gil.specs.Names.{Program, Checked, refused, accepted, checkText, tested, refusedIf, overLimits, wrongNames, wrongJump, wrongEnd, numberProgram}
@@ -52,6 +53,25 @@ judged text = go (checkText text) refl (check-by text)
     go (refused n) e (aRefusal h) = turnedDown e (λ z. omega arith)
     go (accepted p) e aProgram = takenUp p e
 
+-- so a number that check answers is the text's refusal, and 0 is a program
+pub refused-by : (text : List ℕ) {r : ℕ} → r ≡ checkCall text → (r ≡ 0 → ⊥) → checkText text ≡ refused r
+refused-by text {r} e z = go (subst (Judged text) (sym e) (judged text)) z
+  where
+    go : {n : ℕ} → Judged text n → (n ≡ 0 → ⊥) → checkText text ≡ refused n
+    go (turnedDown f k) z = f
+    go (takenUp p f) z = absurd (z refl)
+
+pub record Accepts (text : List ℕ) : Type 0 where
+  pub program : Program
+  pub accepts : checkText text ≡ accepted program
+
+pub accepted-by : (text : List ℕ) {r : ℕ} → r ≡ checkCall text → r ≡ 0 → Accepts text
+accepted-by text {r} e z = go (subst (Judged text) (sym e) (judged text)) z
+  where
+    go : {n : ℕ} → Judged text n → n ≡ 0 → Accepts text
+    go (turnedDown f k) z = absurd (k z)
+    go (takenUp p f) z = record { program = p; accepts = f }
+
 -- 1 and 2 come first, then the text's refusal; `none` where no reason up to 8 holds
 module _ {A : Type 0} (on : Checked → A) (text : List ℕ) where
   pub first-budget : {a : Bool} (b : Bool) → a ≡ true → on (firstOf a b (checkText text)) ≡ on (refused 1)
@@ -65,3 +85,25 @@ module _ {A : Type 0} (on : Checked → A) (text : List ℕ) where
   pub first-text : {a b : Bool} {c : Checked} → a ≡ false → b ≡ false → checkText text ≡ c → on (firstOf a b (checkText text)) ≡ on c
   unfolding firstOf
   first-text {a} {b} {c} e f g = rw (e, f, g, firstOf)
+
+-- the input list's test and the answer's are one reason
+pub or-first : {a : Bool} (b : Bool) → a ≡ true → (a || b) ≡ true
+or-first b e = rw e
+
+pub or-second : {a b : Bool} → a ≡ false → b ≡ true → (a || b) ≡ true
+or-second e f = rw (e, f)
+
+pub or-neither : {a b : Bool} → a ≡ false → b ≡ false → (a || b) ≡ false
+or-neither e f = rw (e, f)
+
+pub inputs-long : (inputs : List ℕ) → wrongInputs inputs ≡ false → length inputs ≡ 64
+unfolding wrongInputs
+inputs-long inputs e = eqb-true (length inputs) 64 (not-false (eqb (length inputs) 64) e)
+
+pub or-false : (a b : Bool) → (a || b) ≡ false → (a ≡ false) × (b ≡ false)
+or-false true b e = absurd (true≢false e)
+or-false false b e = (refl, e)
+
+pub and-second : (a b : Bool) → (a && b) ≡ true → b ≡ true
+and-second true b e = e
+and-second false b e = absurd (false≢true e)

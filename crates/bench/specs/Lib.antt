@@ -1,2 +1,6 @@
-pub mod Check
 pub mod Answers
+pub mod Inputs
+pub mod Plain
+pub mod Tables
+pub mod Outcomes
+pub mod Demanded

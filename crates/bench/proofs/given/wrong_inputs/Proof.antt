@@ -1,0 +1,14 @@
+use mathlib.Core.Path.{refl}
+use Rattle.gil.specs.Calls.{wrongInputs}
+use Rattle.bench.proofs.given.wrong_inputs.Statement.{statement}
+use Rattle.bench.proofs.given.wrong_inputs.Tie as tie
+use Rattle.bench.proofs.given.wrong_inputs.Reads as reads
+use Rattle.bench.proofs.given.wrong_inputs.Lts as lts
+
+-- src/given.rt:42:1
+returns : tie.Need-returns
+unfolding wrongInputs
+returns c = refl
+
+pub wrong-inputs-spec : {M : Type 1} → statement M
+wrong-inputs-spec = tie.close (tie.spec returns)

@@ -1,0 +1,26 @@
+// An accepted program explored into lent memory that may be longer than is needed: the surplus stays as it was.
+ghost use mathlib.Core.Path.{_≡_};
+ghost use Prim.Native.Nat.{_≤_};
+ghost use lib.ListN.{length};
+ghost use Rattle.bench.specs.Tables.{Leaves};
+use code::CODE_WORDS;
+use walk::Budgets;
+
+// 0, or 9 or 10, which leave the needed part of both zero
+pub fn explore(
+    code: &[u32; CODE_WORDS],
+    steps: u32,
+    branches: u32,
+    table: &mut [u8],
+    pool: &mut [u8],
+) -> u32
+    requires { ⌜ (65600 ≤ length (now table)) × (40960 ≤ length (now pool)) ⌝ }
+    ensures { λ r. ⌜ Leaves (now (code .entry)) steps branches (now (table .entry)) (now (pool .entry)) r (now (table .exit)) (now (pool .exit)) ⌝ }
+{
+    walk::explore(
+        code,
+        Budgets { steps, branches },
+        &mut table[..65600],
+        &mut pool[..40960],
+    )
+}
