@@ -1,5 +1,6 @@
 -- Exploring a well-formed program gives a sound table: `exploring-sound`. A path holds only what fits the pool, every command keeps that
--- (Commands), and the pool only grows (Growing); so each row fits when it is finished, and ever after. Assumes nothing.
+-- (Commands), and the pool only grows (Growing); so each row fits when it is finished, and ever after. Beside it, what a sound table does
+-- not say: every row stands in a procedure of the program, and a refusal has a number. Assumes nothing.
 use Prim.Native.Nat.{ℕ, zero, suc, _+_, _≤_, _<_}
 use native.Mathlib.Omega.{arith}
 use mathlib.Core.Path.{_≡_, refl, sym, subst}
@@ -24,27 +25,35 @@ use Rattle.locate.specs.Exploring.Commands.{each-more, noCaller, StateFi
 pub mod Growing
 pub mod Commands
 
+-- a row of a program with so many procedures
+record RowStands (procedures : ℕ) (w : Pool) (r : Row Ref) : Type 0 where
+  fits : RowFits w r
+  stands : r .procedure < procedures
+
 -- What holds of a table at any time of the exploration: it is sound but for having a row
-record SoFar (w : Pool) (table : List (Row Ref)) : Type 0 where
+record SoFar (procedures : ℕ) (w : Pool) (table : List (Row Ref)) : Type 0 where
   fewTerms : length w ≤ 2048
   terms : TermsFit [] w
   fewRows : length table ≤ 64
-  rows : Each (RowFits w) table
+  rows : Each (RowStands procedures w) table
 
 -- what a walk from such a table comes to
-data After (w : Pool) : Explored Pool Ref → Type 0 where
-  stops : {n : ℕ} → After w (refused n)
-  goesOn : {u : Pool} {rows : List (Row Ref)} → Grows w u → 1 ≤ length rows → SoFar u rows → After w (explored u rows)
+data After (procedures : ℕ) (w : Pool) : Explored Pool Ref → Type 0 where
+  stops : {n : ℕ} → 1 ≤ n → After procedures w (refused n)
+  goesOn : {u : Pool} {rows : List (Row Ref)} → Grows w u → 1 ≤ length rows → SoFar procedures u rows → After procedures w (explored u rows)
 
-first-after : {w u : Pool} {x : Explored Pool Ref} → Grows w u → After u x → After w x
-first-after g stops = stops
+first-after : {k : ℕ} {w u : Pool} {x : Explored Pool Ref} → Grows w u → After k u x → After k w x
+first-after g (stops h) = stops h
 first-after g (goesOn h some s) = goesOn (then-grows g h) some s
 
-finish-after : {w : Pool} {rows : List (Row Ref)} {r : Row Ref} → SoFar w rows → RowFits w r → After w (finish w rows r)
+stands-grows : {k : ℕ} {w u : Pool} → Grows w u → (r : Row Ref) → RowStands k w r → RowStands k u r
+stands-grows g r f = record { fits = row-grows g r (f .fits); stands = f .stands }
+
+finish-after : {k : ℕ} {w : Pool} {rows : List (Row Ref)} {r : Row Ref} → SoFar k w rows → RowStands k w r → After k w (finish w rows r)
 unfolding finish
-finish-after {w} {rows} {r} s f =
-    choose (After w) (leb 64 (length rows))
-    (λ e. stops)
+finish-after {k} {w} {rows} {r} s f =
+    choose (After k w) (leb 64 (length rows))
+    (λ e. stops {n = 9} (omega arith))
     (λ e.
     goesOn (same-pool w) (simp length-append (omega arith))
     (record {
@@ -55,6 +64,9 @@ finish-after {w} {rows} {r} s f =
     }))
 
 module _ (p : Program) (wellFormed : WellFormed p) (most : ℕ) (few : most ≤ 16) where
+  abbrev count : ℕ
+  count = length (p .procedures)
+
   -- a path with k steps left
   record PathFits (k : ℕ) (w : Pool) (q : Path Ref) : Type 0 where
     state : StateFits p w (q .state)
@@ -63,7 +75,7 @@ module _ (p : Program) (wellFormed : WellFormed p) (most : ℕ) (few : most ≤ 
     conditions : Each (ConditionFits w) (q .conditions)
 
   data TurnFits (k : ℕ) (w : Pool) : Turn Ref → Type 0 where
-    fitsFinishes : {r : Row Ref} → RowFits w r → TurnFits k w (finishes r)
+    fitsFinishes : {r : Row Ref} → RowStands count w r → TurnFits k w (finishes r)
     fitsGoes : {q : Path Ref} → PathFits k w q → TurnFits k w (goes q)
     fitsForks : {a b : Path Ref} → PathFits k w a → PathFits k w b → TurnFits k w (forks a b)
 
@@ -77,19 +89,23 @@ module _ (p : Program) (wellFormed : WellFormed p) (most : ℕ) (few : most ≤ 
       }
 
   row-fits :
-      {k : ℕ} {w : Pool} {q : Path Ref} {o : Outcome Ref} (n : ℕ) → PathFits k w q → n ≤ 1024 → OutcomeFits w o → RowFits w (rowOf o n q)
+      {k : ℕ} {w : Pool} {q : Path Ref} {o : Outcome Ref} (n : ℕ) → PathFits k w q → n ≤ 1024 → OutcomeFits w o → RowStands count w (rowOf o n q)
   unfolding rowOf
   row-fits {q = q} n f h g =
       record {
-        outcome = g;
-        steps = h;
-        procedure = omega (arith, f .state .control .procedure, wellFormed .fewProcedures);
-        command = f .state .control .command;
-        inputs = f .state .control .inputs;
-        fewConditions = omega (arith, f .fewConditions);
-        conditions = f .conditions;
-        variables = f .state .variables;
-        cells = f .state .cells;
+        fits =
+            record {
+              outcome = g;
+              steps = h;
+              procedure = omega (arith, f .state .control .procedure, wellFormed .fewProcedures);
+              command = f .state .control .command;
+              inputs = f .state .control .inputs;
+              fewConditions = omega (arith, f .fewConditions);
+              conditions = f .conditions;
+              variables = f .state .variables;
+              cells = f .state .cells;
+            };
+        stands = f .state .control .procedure;
       }
 
   turned-fits :
@@ -143,38 +159,38 @@ module _ (p : Program) (wellFormed : WellFormed p) (most : ℕ) (few : most ≤ 
   -- a walk that adds to sound tables, with k steps left
   record Walks (k : ℕ) (walks : Path Ref → Explored Pool Ref → Explored Pool Ref) : Type 0 where
     refuses : (q : Path Ref) (n : ℕ) → walks q (refused n) ≡ refused n
-    adds : (w : Pool) (rows : List (Row Ref)) (q : Path Ref) → SoFar w rows → PathFits k w q → After w (walks q (explored w rows))
+    adds : (w : Pool) (rows : List (Row Ref)) (q : Path Ref) → SoFar count w rows → PathFits k w q → After count w (walks q (explored w rows))
 
   module _ {k : ℕ} {walks : Path Ref → Explored Pool Ref → Explored Pool Ref} (good : Walks k walks) where
-    second-after : {w : Pool} {q : Path Ref} {x : Explored Pool Ref} → After w x → PathFits k w q → After w (walks q x)
-    second-after {w} {q} (stops {n}) f = subst (After w) (sym (good .refuses q n)) stops
+    second-after : {w : Pool} {q : Path Ref} {x : Explored Pool Ref} → After count w x → PathFits k w q → After count w (walks q x)
+    second-after {w} {q} (stops {n} h) f = subst (After count w) (sym (good .refuses q n)) (stops h)
     second-after {w} {q} (goesOn {u} {rows} g some s) f = first-after g (good .adds u rows q s (path-grows g f))
 
-    turn-after : {w : Pool} {rows : List (Row Ref)} {t : Turn Ref} → SoFar w rows → TurnFits k w t → After w (walkTurn walks w rows t)
+    turn-after : {w : Pool} {rows : List (Row Ref)} {t : Turn Ref} → SoFar count w rows → TurnFits k w t → After count w (walkTurn walks w rows t)
     unfolding walkTurn
     turn-after s (fitsFinishes f) = finish-after s f
     turn-after {w} {rows} s (fitsGoes {q} f) = good .adds w rows q s f
     turn-after {w} {rows} s (fitsForks {a} f g) = second-after (good .adds w rows a s f) g
 
-    in-pool : {w u : Pool} {rows : List (Row Ref)} → SoFar w rows → Grows w u → TermsFit [] u → length u ≤ 2048 → SoFar u rows
-    in-pool s g t h = record { fewTerms = h; terms = t; fewRows = s .fewRows; rows = each-to (row-grows g) (s .rows) }
+    in-pool : {w u : Pool} {rows : List (Row Ref)} → SoFar count w rows → Grows w u → TermsFit [] u → length u ≤ 2048 → SoFar count u rows
+    in-pool s g t h = record { fewTerms = h; terms = t; fewRows = s .fewRows; rows = each-to (stands-grows g) (s .rows) }
 
     move-after :
         {w : Pool} {rows : List (Row Ref)} {q : Path Ref} {m : Result Pool (Next Ref)}
-        → SoFar w rows
+        → SoFar count w rows
         → PathFits (suc k) w q
         → Gives (NextFits p) w m
-        → After w (walkMoveP walks q rows m)
+        → After count w (walkMoveP walks q rows m)
     unfolding pooled walkMove settled overfull turnIn
     move-after {w} s f (gives {u} g t n) =
-        choose (After w) (ltb 2048 (length u)) (λ e. stops) (λ e.
+        choose (After count w) (ltb 2048 (length u)) (λ e. stops {n = 10} (omega arith)) (λ e.
         first-after g (turn-after (in-pool s g t (ltb-false 2048 (length u) e)) (turned-fits f g n)))
     move-after {w} s f (errs {u} {n} g t h i) =
-        choose (After w) (ltb 2048 (length u)) (λ e. stops) (λ e.
+        choose (After count w) (ltb 2048 (length u)) (λ e. stops {n = 10} (omega arith)) (λ e.
         first-after g (turn-after (in-pool s g t (ltb-false 2048 (length u) e)) (turned-fits f g (fitsEnds (fitsError h i)))))
 
   walk-after :
-      (k : ℕ) (w : Pool) (rows : List (Row Ref)) (q : Path Ref) → SoFar w rows → PathFits k w q → After w (walkP k q (explored w rows))
+      (k : ℕ) (w : Pool) (rows : List (Row Ref)) (q : Path Ref) → SoFar count w rows → PathFits k w q → After count w (walkP k q (explored w rows))
   unfolding pooled walk move cutFor
   walk-after zero w rows q s f = finish-after s (row-fits (q .steps) f (omega (arith, f .steps)) fitsCut)
   walk-after (suc k) w rows q s f =
@@ -204,20 +220,35 @@ module _ (p : Program) (wellFormed : WellFormed p) (most : ℕ) (few : most ≤ 
         conditions = WellFormed.none;
       }
 
-empty-so-far : SoFar [] []
-empty-so-far = record { fewTerms = omega arith; terms = noTerm; fewRows = omega arith; rows = WellFormed.none }
+empty-so-far : (k : ℕ) → SoFar k [] []
+empty-so-far k = record { fewTerms = omega arith; terms = noTerm; fewRows = omega arith; rows = WellFormed.none }
 
-table-after : {p : Program} (budget most : ℕ) → WellFormed p → budget ≤ 1024 → most ≤ 16 → After [] (table p budget most)
+table-after :
+    {p : Program} (budget most : ℕ) → WellFormed p → budget ≤ 1024 → most ≤ 16 → After (length (p .procedures)) [] (table p budget most)
 unfolding pooled table explore
 table-after {p} budget most wellFormed h few =
-    walk-after p wellFormed most few budget [] [] (beginP p wellFormed most few) empty-so-far (begin-fits p wellFormed most few budget h)
+    walk-after p wellFormed most few budget [] [] (beginP p wellFormed most few) (empty-so-far (length (p .procedures)))
+    (begin-fits p wellFormed most few budget h)
 
-after-sound : {w : Pool} {rows : List (Row Ref)} → After [] (explored w rows) → Sound w rows
+after-sound : {k : ℕ} {w : Pool} {rows : List (Row Ref)} → After k [] (explored w rows) → Sound w rows
 after-sound (goesOn g some s) =
-    record { fewTerms = s .fewTerms; terms = s .terms; someRow = some; fewRows = s .fewRows; rows = s .rows }
+    record { fewTerms = s .fewTerms; terms = s .terms; someRow = some; fewRows = s .fewRows; rows = each-to (λ r f. f .fits) (s .rows) }
 
--- Exploring a well-formed program within the budgets gives a sound table.
-pub exploring-sound :
-    {p : Program} {w : Pool} {rows : List (Row Ref)} (budget most : ℕ) → WellFormed p → budget ≤ 1024 → most ≤ 16
-    → table p budget most ≡ explored w rows → Sound w rows
-exploring-sound budget most wellFormed h few e = after-sound (subst (After []) e (table-after budget most wellFormed h few))
+after-stands : {k : ℕ} {w : Pool} {rows : List (Row Ref)} → After k [] (explored w rows) → Each (λ (r : Row Ref). r .procedure < k) rows
+after-stands (goesOn g some s) = each-to (λ r f. f .stands) (s .rows)
+
+after-numbered : {k n : ℕ} → After k [] (refused n) → 1 ≤ n
+after-numbered (stops h) = h
+
+module _ {p : Program} (budget most : ℕ) (wellFormed : WellFormed p) (small : budget ≤ 1024) (few : most ≤ 16) where
+  -- Exploring a well-formed program within the budgets gives a sound table, whose rows stand in the program's procedures.
+  pub exploring-sound : {w : Pool} {rows : List (Row Ref)} → table p budget most ≡ explored w rows → Sound w rows
+  exploring-sound e = after-sound (subst (After (length (p .procedures)) []) e (table-after budget most wellFormed small few))
+
+  pub exploring-stands :
+      {w : Pool} {rows : List (Row Ref)} → table p budget most ≡ explored w rows → Each (λ (r : Row Ref). r .procedure < length (p .procedures)) rows
+  exploring-stands e = after-stands (subst (After (length (p .procedures)) []) e (table-after budget most wellFormed small few))
+
+  -- a refusal while exploring is not by 0, which is success
+  pub exploring-numbered : {n : ℕ} → table p budget most ≡ refused n → 1 ≤ n
+  exploring-numbered e = after-numbered (subst (After (length (p .procedures)) []) e (table-after budget most wellFormed small few))

@@ -102,7 +102,7 @@ module _ {w : Pool} (few : length w ≤ 2048) where
   cell-words c f =
       more {w = c .location} (omega (arith, f .location)) (more {w = c .property} (omega (arith, f .property)) (value-words few (f .value)))
 
-  row-words : {r : Row Ref} → RowFits w r → Words (rowWords refTag placeIn r)
+  pub row-words : {r : Row Ref} → RowFits w r → Words (rowWords refTag placeIn r)
   unfolding rowWords headWords
   row-words {r} f =
       words-append

@@ -69,7 +69,7 @@ two-zeros : Words (0 ∷ 0 ∷ [])
 two-zeros = more {w = 0} (omega arith) (more {w = 0} (omega arith) none)
 
 -- a term's five words
-node-words : {w : Pool} {n : Node Ref} → length w ≤ 2048 → NodeFits w n → Words (nodeWords n)
+pub node-words : {w : Pool} {n : Node Ref} → length w ≤ 2048 → NodeFits w n → Words (nodeWords n)
 unfolding nodeWords constantWords
 node-words h (fitsInput {k} f) = more {w = 1} (omega arith) (more {w = 1} (omega arith) (more {w = k} (omega arith) two-zeros))
 node-words h (fitsNot f e) = more {w = 2} (omega arith) (words-append (value-words h f) two-zeros)

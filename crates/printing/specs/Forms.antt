@@ -1,6 +1,6 @@
 -- What each function of this crate writes, on any bytes of table and pool at all: a row's fields, rows, the whole table. `Lines` shows that
 -- for the bytes of a table and its pool this is document 01's printed form. Assumes nothing.
-use Prim.Native.Nat.{ℕ, zero, suc, _+_, _*_, _-_}
+use Prim.Native.Nat.{ℕ, zero, suc, _+_, _*_, _-_, _/_, _%_}
 use mathlib.Core.List.{List, [], _∷_, _++_}
 use lib.ListN.{getD, replicate}
 use lib.Dec.{ltb, eqb}
@@ -37,9 +37,9 @@ unlessForm truth = if? (eqb truth 0) (bytes "not ") []
 unfoldable pub rowWord : List ℕ → (row m : ℕ) → ℕ
 rowWord table row m = wordAt table (64 + 1024 * row + 4 * m)
 
--- a procedure's name, by its number
+-- a procedure's name, by its number: a table of names has where it begins in the text, times 32, and its length in one word
 unfoldable pub nameForm : (text names : List ℕ) → ℕ → List ℕ
-nameForm text names f = if? (ltb f 16) (part text (getD names (2 * f) 0) (getD names (2 * f + 1) 0)) []
+nameForm text names f = if? (ltb f 16) (part text (getD names f 0 / 32) (getD names f 0 % 32)) []
 
 module _ (table pool ss : List ℕ) (row : ℕ) where
   unfoldable pub conditionForm : ℕ → List ℕ

@@ -39,7 +39,7 @@ words-zeros : (n : ℕ) → Words (replicate n 0)
 words-zeros zero = words.none
 words-zeros (suc n) = words.more {w = 0} (omega arith) (words-zeros n)
 
-rows-sized : {rows : List (Row Ref)} → Each RowFits rows → Each (Sized (rowWords refTag placeIn) 256) rows
+rows-sized : {k : ℕ} {rows : List (Row Ref)} → Each (RowFits k) rows → Each (Sized (rowWords refTag placeIn) 256) rows
 rows-sized each.none = each.none
 rows-sized (each.more f fs) = each.more (record { size = f .size; words = f .words }) (rows-sized fs)
 
@@ -96,10 +96,10 @@ module _ (w : Pool) (rows : List (Row Ref)) (rest : List ℕ) (fewTerms : length
   term-count = head-word 1 4 (omega arith) (omega arith)
 
   row-word :
-      (j m : ℕ) {r : Row Ref} {later : List (Row Ref)} → Each RowFits rows → drop j rows ≡ r ∷ later → m < 256
+      (j m : ℕ) {k : ℕ} {r : Row Ref} {later : List (Row Ref)} → Each (RowFits k) rows → drop j rows ≡ r ∷ later → m < 256
       → rowWord (tableBytes w rows ++ rest) j m ≡ getD (rowWords refTag placeIn r) m 0
   unfolding rowWord rowBytes
-  row-word j m {r} {later} f e h =
+  row-word j m {k} {r} {later} f e h =
       let l : length (tableHead w rows) ≡ 64 = unfold tableHead room in length-words (room 16 (length rows ∷ length w ∷ [])) in
       let z : 64 + 1024 * j + 4 * m ≡ length (tableHead w rows) + 4 * (256 * j) + 4 * m = omega arith in
       ap (λ (b : List ℕ). wordAt b (64 + 1024 * j + 4 * m)) table-parts
@@ -194,7 +194,7 @@ module _ (text names : List ℕ) (p : Program) (w : Pool) (rows : List (Row Ref)
         (ap₂ (λ (a b : List ℕ). a ++ b) (condition 0 c e (omega arith)) (further cs 1 l g (omega arith)))
 
     -- the row
-    fits : RowFits r
+    fits : RowFits (length (p .procedures)) r
     fits = rw (first rows j r here) at (each-at (f .rowsFit) j r (more-there rows j here))
 
     outcome : Three (r .outcome)
@@ -215,7 +215,9 @@ module _ (text names : List ℕ) (p : Program) (w : Pool) (rows : List (Row Ref)
 
     named : nameForm text names (r .procedure) ≡ procedureAt p (r .procedure) .name
     unfolding nameForm
-    named = simp (lt-ltb (r .procedure) 16 (fits .procedure)) (f .named (r .procedure) (fits .procedure) .found)
+    named =
+        let h : r .procedure < 16 = omega (arith, fits .procedure, f .fewProcedures) in
+        simp (lt-ltb (r .procedure) 16 h) (f .named (r .procedure) (fits .procedure))
 
     place : placeForm text names table j ≡ (44 ∷ decimal (r .steps)) ++ (44 ∷ procedureAt p (r .procedure) .name) ++ (44 ∷ decimal (r .command))
     unfolding placeForm rowWith room

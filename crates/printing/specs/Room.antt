@@ -1,21 +1,21 @@
 -- "At most 262,144 bytes": every printable table's text fits, and so do the refusals. Assumes nothing.
-use Prim.Native.Nat.{ℕ, suc, _+_, _*_, _≤_, _<_}
+use Prim.Native.Nat.{ℕ, suc, _+_, _*_, _/_, _%_, _≤_, _<_}
 use native.Mathlib.Omega.{arith}
 use mathlib.Core.Path.{_≡_, sym, _∙_, ap}
 use mathlib.Core.Bool.{Bool, true, false}
 use mathlib.Core.List.{List, [], _∷_, _++_}
 use mathlib.Core.Option.{Option, none}
-use lib.ListN.{length, take, drop, length-append}
+use lib.ListN.{length, getD, take, drop, length-append, length-take}
 use lib.Seq.{take-length, take-at}
 use borrow.Author.Tests.{le-ltb}
-use Rattle.gil.specs.Text.{bytes}
+use Rattle.gil.specs.Text.{bytes, part}
 use Rattle.gil.specs.Names.{Program}
 use Rattle.gil.specs.Values.{Value, term}
 use Rattle.gil.specs.Machine.{procedureAt, End, returned, failed, vanished, error}
 use Rattle.gil.specs.Rows.{Condition, steps, branches, Outcome, ended, cut, Row}
 use Rattle.gil.specs.Explore.{explored}
 use Rattle.gil.specs.Pool.{Ref, Pool}
-use Rattle.gil.specs.Layout.{tableBytes}
+use Rattle.gil.specs.Layout.{poolBytes, tableBytes}
 use Rattle.gil.specs.Printed.{poolTexts, orLarge, valueField, endFields, outcomeFields, unlessTrue, conditionText, conditionsAfter, conditionsField, lineEnd, rowLine, rowLines, heading, refusalLine, exploredText}
 use Rattle.code.specs.WellFormed.{Each}
 use Rattle.code.specs.WellFormed as each
@@ -70,21 +70,30 @@ module _ (p : Program) (ts : List (Option (List ℕ))) (f : Shorts ts) where
   conditions-length (c ∷ cs) = simp length-append (omega (arith, condition-length c, after-length cs))
 
   line-length :
-      (k : ℕ) (r : Row Ref) → length (r .conditions) ≤ 16 → length (procedureAt p (r .procedure) .name) ≤ 16
-      → length (rowLine p ts k r) ≤ 3562
+      (k : ℕ) (r : Row Ref) → length (r .conditions) ≤ 16 → length (procedureAt p (r .procedure) .name) < 32
+      → length (rowLine p ts k r) ≤ 3577
   unfolding rowLine lineEnd
   line-length k r h i =
       simp length-append
       (omega (arith, decimal-length k, outcome-length (r .outcome), decimal-length (r .steps), decimal-length (r .command), conditions-length (r .conditions)))
 
   lines-length :
-      {rows : List (Row Ref)} (k : ℕ) → Each RowFits rows → ((g : ℕ) → g < 16 → length (procedureAt p g .name) ≤ 16)
-      → length (rowLines p ts k rows) ≤ 3562 * length rows
+      {n : ℕ} {rows : List (Row Ref)} (k : ℕ) → Each (RowFits n) rows → ((g : ℕ) → g < n → length (procedureAt p g .name) < 32)
+      → length (rowLines p ts k rows) ≤ 3577 * length rows
   unfolding rowLines
   lines-length k each.none n = omega arith
   lines-length k (each.more {a} {l} g gs) n =
       simp length-append
       (omega (arith, line-length k a (g .fewConditions) (n (a .procedure) (g .procedure)), lines-length (suc k) gs n))
+
+-- a name's length is a place's last five bits
+name-length :
+    (text names : List ℕ) (p : Program) (w : Pool) (rows : List (Row Ref)) → Printable text names p w rows → (g : ℕ)
+    → g < length (p .procedures) → length (procedureAt p g .name) < 32
+unfolding part
+name-length text names p w rows f g h =
+    let n : ℕ = getD names g 0 in
+    rw (← f .named g h) (omega (arith, length-take (n % 32) (drop (n / 32) text)))
 
 pub table-room :
     (text names : List ℕ) (p : Program) (w : Pool) (rows : List (Row Ref)) → Printable text names p w rows
@@ -92,7 +101,7 @@ pub table-room :
 unfolding exploredText heading bytes lineEnd
 table-room text names p w rows f =
     omega
-    (arith, f .fewRows, lines-length p (poolTexts w) (pool-shorts w [] (f .fewTerms) (f .termsFit)) 0 (f .rowsFit) (λ g h. f .named g h .short))
+    (arith, f .fewRows, lines-length p (poolTexts w) (pool-shorts w [] (f .fewTerms) (f .termsFit)) 0 (f .rowsFit) (name-length text names p w rows f))
 
 pub refusal-room : (n : ℕ) → length (refusalLine n) ≤ 20
 unfolding refusalLine bytes lineEnd
@@ -113,12 +122,17 @@ pub renders :
     → Renders text names table pool b b' r
 renders text names table pool {b} {b'} {r} f =
     record {
+      front = λ p w rows rest rest' g e e'. written p w rows rest rest' g e e';
       whole =
-          λ p w rows rest rest' g e e' h.
-          let i : tableForm text names table pool ≡ exploredText p (explored w rows) =
-          ap (λ (l : List ℕ). tableForm text names l pool) e
-          ∙ ap (λ (l : List ℕ). tableForm text names (tableBytes w rows ++ rest) l) e'
-          ∙ table-law text names p w rows g rest rest' in
-          let j : Front (exploredText p (explored w rows)) b b' r = rw (← i) f in
-          whole j (omega (arith, table-room text names p w rows g));
+          λ p w rows rest rest' g e e' h. whole (written p w rows rest rest' g e e') (omega (arith, table-room text names p w rows g));
     }
+  where
+    written :
+        (p : Program) (w : Pool) (rows : List (Row Ref)) (rest rest' : List ℕ) → Printable text names p w rows
+        → table ≡ tableBytes w rows ++ rest → pool ≡ poolBytes w ++ rest' → Front (exploredText p (explored w rows)) b b' r
+    written p w rows rest rest' g e e' =
+        let i : tableForm text names table pool ≡ exploredText p (explored w rows) =
+        ap (λ (l : List ℕ). tableForm text names l pool) e
+        ∙ ap (λ (l : List ℕ). tableForm text names (tableBytes w rows ++ rest) l) e'
+        ∙ table-law text names p w rows g rest rest' in
+        rw (← i) f

@@ -134,13 +134,14 @@ fn put_conditions(
     put_further(out, first, table, pool, sizes, row, n - 1)
 }
 
-// The name of procedure f, where the text has it
-fn put_name(out: &mut [u8], at: usize, text: &[u8], names: &[u32; 32], f: u32) -> usize
+// The name of procedure f, where the text has it by a table of names (crates/names)
+fn put_name(out: &mut [u8], at: usize, text: &[u8], names: &[u32; 33], f: u32) -> usize
     ensures { λ r. ⌜ Wrote (now (out .entry)) at (nameForm (now (text .entry)) (now (names .entry)) f) (now (out .exit)) r ⌝ }
 {
     let k = f as usize;
     if k < 16 {
-        return put_part(out, at, text, names[2 * k], names[2 * k + 1]);
+        let place = names[k];
+        return put_part(out, at, text, place / 32, place % 32);
     }
     at
 }
@@ -169,7 +170,7 @@ fn put_place(
     out: &mut [u8],
     at: usize,
     text: &[u8],
-    names: &[u32; 32],
+    names: &[u32; 33],
     table: &[u8],
     row: u32,
 ) -> usize
@@ -187,7 +188,7 @@ fn put_row(
     out: &mut [u8],
     at: usize,
     text: &[u8],
-    names: &[u32; 32],
+    names: &[u32; 33],
     table: &[u8],
     pool: &[u8],
     sizes: &[u8; TERMS],
@@ -206,7 +207,7 @@ fn put_rows(
     out: &mut [u8],
     at: usize,
     text: &[u8],
-    names: &[u32; 32],
+    names: &[u32; 33],
     table: &[u8],
     pool: &[u8],
     sizes: &[u8; TERMS],
@@ -225,7 +226,7 @@ fn put_rows(
 
 // The whole table: as much of its text as `out` has room for stands at the front, and how many bytes that is. On the bytes of a table and
 // its pool that is document 01's printed table, for which 262,144 bytes are always enough.
-pub fn render(text: &[u8], names: &[u32; 32], table: &[u8], pool: &[u8], out: &mut [u8]) -> usize
+pub fn render(text: &[u8], names: &[u32; 33], table: &[u8], pool: &[u8], out: &mut [u8]) -> usize
     ensures any { λ r. ⌜ Front (tableForm (now (text .entry)) (now (names .entry)) (now (table .entry)) (now (pool .entry))) (now (out .entry)) (now (out .exit)) r ⌝ }
     ensures printed { λ r. ⌜ Renders (now (text .entry)) (now (names .entry)) (now (table .entry)) (now (pool .entry)) (now (out .entry)) (now (out .exit)) r ⌝ }
 {
