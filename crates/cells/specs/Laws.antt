@@ -8,7 +8,7 @@ use native.Mathlib.Numerals.{add-one}
 use native.Mathlib.Omega.{arith}
 use lib.ListN.{length, getD, take, drop, set, length-take, drop-of-length-le, take-append-drop, length-map}
 use lib.Dec.{eqb, ltb}
-use lib.Seq.{drop-cons, getD-take, take-suc-set, drop-set-lt, append-snoc, length-take-le}
+use lib.Seq.{drop-cons, getD-take, take-suc-set, take-set-lt, drop-set-lt, append-snoc, length-take-le}
 use borrow.Author.Tests.{ltb-true, ltb-false}
 use Rattle.gil.specs.Theory.Tests.{no-false}
 use Rattle.gil.specs.Machine as Machine
@@ -137,19 +137,33 @@ module _ (last : ℕ) (i : ℕ) (c : Cell) (out : List Cell) where
       let e : last + 1 - i ≡ 0 = omega arith in
       ap (λ (m : ℕ). take i out ++ shiftIn m c (drop i out)) e ∙ take-append-drop i out
 
--- the cells kept so far, and one more; at the end they are all
-module _ (n : ℕ) (out : List Cell) where
-  pub kept-more : (c : Cell) (w : List (Machine.Cell ℕ)) → n < length out
-      → map cellOf (take n out) ++ cellOf c ∷ w ≡ map cellOf (take (n + 1) (set out n c)) ++ w
-  kept-more c w h =
-      sym
-      (ap (λ (k : ℕ). map cellOf (take k (set out n c)) ++ w) (add-one n)
-      ∙ ap (λ (l : List Cell). map cellOf l ++ w) (take-suc-set out n c h)
-      ∙ ap (λ (l : List (Machine.Cell ℕ)). l ++ w) (map-append cellOf (take n out) (c ∷ []))
-      ∙ append-snoc (map cellOf (take n out)) (cellOf c) w)
+-- the cells kept so far, the first `n`, and those not yet looked at, from the place i on
+module _ (l i n held : ℕ) (zs : List Cell) where
+  pub removed-skip : i < held → held ≤ length zs → eqb l (getD zs i noCell .location .0) ≡ true
+      → heldIn n zs ++ withoutCells l (fromIn i held zs) ≡ heldIn n zs ++ withoutCells l (fromIn (i + 1) held zs)
+  removed-skip h whole e = ap (λ (w : List (Machine.Cell ℕ)). heldIn n zs ++ w) (taken-out i held zs h (omega arith) l e)
 
-  pub kept-all : (rest w : List (Machine.Cell ℕ)) → n ≤ length out → rest ≡ [] → map cellOf (take n out) ++ rest ≡ w → heldIn (length w) out ≡ w
-  kept-all rest w h over e =
-      let f : map cellOf (take n out) ≡ w = sym (append-nil (map cellOf (take n out))) ∙ ap (λ (l : List (Machine.Cell ℕ)). map cellOf (take n out) ++ l) (sym over) ∙ e in
-      let g : length w ≡ n = sym (ap length f) ∙ length-map (take n out) cellOf ∙ length-take-le n out h in
-      ap (λ (k : ℕ). heldIn k out) g ∙ f
+  pub removed-keep : n ≤ i → i < held → held ≤ length zs → eqb l (getD zs i noCell .location .0) ≡ false
+      → heldIn n zs ++ withoutCells l (fromIn i held zs)
+      ≡ heldIn (n + 1) (set zs n (getD zs i noCell)) ++ withoutCells l (fromIn (i + 1) held (set zs n (getD zs i noCell)))
+  removed-keep low h whole e =
+      let x = getD zs i noCell in
+      let w = withoutCells l (fromIn (i + 1) held zs) in
+      let same : drop (i + 1) (take held (set zs n x)) ≡ drop (i + 1) (take held zs) =
+      ap (drop (i + 1)) (take-set-lt held zs n x (omega arith)) ∙ drop-set-lt (i + 1) (take held zs) n x (omega arith) in
+      ap (λ (r : List (Machine.Cell ℕ)). heldIn n zs ++ r) (left-in i held zs h (omega arith) l e)
+      ∙ sym
+      (ap (λ (k : ℕ). heldIn k (set zs n x) ++ w) (add-one n)
+      ∙ ap (λ (r : List Cell). map cellOf r ++ w) (take-suc-set zs n x (omega arith))
+      ∙ ap (λ (r : List (Machine.Cell ℕ)). r ++ w) (map-append cellOf (take n zs) (x ∷ []))
+      ∙ append-snoc (heldIn n zs) (cellOf x) w)
+      ∙ ap (λ (r : List Cell). heldIn (n + 1) (set zs n x) ++ withoutCells l (map cellOf r)) (sym same)
+
+  pub removed-all : held ≤ i → n ≤ length zs → (w : List (Machine.Cell ℕ)) → heldIn n zs ++ withoutCells l (fromIn i held zs) ≡ w
+      → (n ≡ length w) × (heldIn n zs ≡ w)
+  removed-all over h w e =
+      let f : heldIn n zs ≡ w =
+      sym (append-nil (heldIn n zs))
+      ∙ ap (λ (r : List (Machine.Cell ℕ)). heldIn n zs ++ r) (sym (without-none i held zs l (from-none i held zs over)))
+      ∙ e in
+      (sym (length-take-le n zs h) ∙ sym (length-map (take n zs) cellOf) ∙ ap length f, f)

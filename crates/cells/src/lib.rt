@@ -109,6 +109,41 @@ fn carry(cells: [Cell; CELLS], at: usize, last: usize, cell: Cell) -> [Cell; CEL
     out
 }
 
+// The cells of a location taken out, the others kept in order; how many are kept
+fn remove(cells: &mut [Cell], held: usize, l: Location) -> usize
+    requires { ⌜ held ≤ length (now cells) ⌝ }
+    ensures { λ r. ⌜ (r ≡ length (withoutCells (l .0) (heldIn held (now (cells .entry))))) × (heldIn r (now (cells .exit)) ≡ withoutCells (l .0) (heldIn held (now (cells .entry)))) ⌝ }
+{
+    let mut n: usize = 0;
+    let mut i: usize = 0;
+    while i < held {
+        let c = cells[i];
+        if l.0 != c.location.0 {
+            cells[n] = c;
+            n += 1;
+        }
+        i += 1;
+    }
+    n
+}
+
+fn without(cells: [Cell; CELLS], held: usize, l: Location) -> [Cell; CELLS]
+    requires { ⌜ held ≤ 32 ⌝ }
+    ensures { λ r. ⌜ heldIn (length (withoutCells (l .0) (heldIn held cells))) r ≡ withoutCells (l .0) (heldIn held cells) ⌝ }
+{
+    let mut out = cells;
+    remove(&mut out, held, l);
+    out
+}
+
+fn remaining(cells: [Cell; CELLS], held: usize, l: Location) -> usize
+    requires { ⌜ held ≤ 32 ⌝ }
+    ensures { λ r. ⌜ r ≡ length (withoutCells (l .0) (heldIn held cells)) ⌝ }
+{
+    let mut out = cells;
+    remove(&mut out, held, l)
+}
+
 fn used(held: usize) -> usize
     ensures { λ r. ⌜ r ≡ min held 32 ⌝ }
 {
@@ -205,40 +240,12 @@ pub fn put(cells: [Cell; CELLS], held: usize, l: Location, q: u32, v: u64) -> [C
 pub fn kept(cells: [Cell; CELLS], held: usize, l: Location) -> usize
     ensures { λ r. ⌜ r ≡ length (withoutCells (l .0) (heldIn held cells)) ⌝ }
 {
-    let mut n: usize = 0;
-    let mut i: usize = 0;
-    while i < CELLS {
-        if held <= i {
-            return n;
-        }
-        let c = cells[i];
-        i += 1;
-        if l.0 == c.location.0 {
-            continue;
-        }
-        n += 1;
-    }
-    n
+    remaining(cells, used(held), l)
 }
 
 // "`dispose` removes all cells of the location": the others, in order
 pub fn take_out(cells: [Cell; CELLS], held: usize, l: Location) -> [Cell; CELLS]
     ensures { λ r. ⌜ heldIn (length (withoutCells (l .0) (heldIn held cells))) r ≡ withoutCells (l .0) (heldIn held cells) ⌝ }
 {
-    let mut out = cells;
-    let mut n: usize = 0;
-    let mut i: usize = 0;
-    while i < CELLS {
-        if held <= i {
-            return out;
-        }
-        let c = cells[i];
-        i += 1;
-        if c.location.0 == l.0 {
-            continue;
-        }
-        out[n] = c;
-        n += 1;
-    }
-    out
+    without(cells, used(held), l)
 }

@@ -1,4 +1,3 @@
-use mathlib.Core.Bool.{false}
 use mathlib.Core.Path.{_≡_, refl, sym, _∙_, ap}
 use Prim.Native.Nat.{_<_}
 use lib.ListN.{length}
@@ -33,11 +32,11 @@ array-copy-out-c c = let whole : length (c .before .before .before .args .t1) �
 
 -- src/lib.rt:121:9
 returns : tie.Need-returns
-returns c = sym (found-value false (c .before .before .before .before .args .l .0) (c .before .before .before .before .args .q) _ (c .before .before .before .before .args .held) (c .before .before .before .before .args .t1) (c .before .before .before .place-in .ensures) (sym (c .before .before .holds .ensures) ∙ c .before .if1 .taken))
+returns c = sym (found-value _ (c .before .before .before .before .args .l .0) (c .before .before .before .before .args .q) _ (c .before .before .before .before .args .held) (c .before .before .before .before .args .t1) (c .before .before .before .place-in .ensures) (sym (c .before .before .holds .ensures) ∙ c .before .if1 .taken))
 
 -- src/lib.rt:115:1
 returns-2 : tie.Need-returns-2
-returns-2 c = sym (found-nothing false (c .before .before .before .args .l .0) (c .before .before .before .args .q) _ (c .before .before .before .args .held) (c .before .before .before .args .t1) (c .before .before .place-in .ensures) refl (sym (c .before .holds .ensures) ∙ c .if1 .left))
+returns-2 c = sym (found-nothing _ (c .before .before .before .args .l .0) (c .before .before .before .args .q) _ (c .before .before .before .args .held) (c .before .before .before .args .t1) (c .before .before .place-in .ensures) refl (sym (c .before .holds .ensures) ∙ c .if1 .left))
 
 pub find-spec : {M : Type 1} → statement M
 find-spec =
