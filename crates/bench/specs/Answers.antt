@@ -1,19 +1,16 @@
 -- What each call answers, by the tests that it makes: the laws that the proofs of the exported calls cite. Assumes nothing.
-use Prim.Native.Nat.{ℕ, zero, suc, _+_, _≤_, _<_}
+use Prim.Native.Nat.{ℕ, _≤_}
 use native.Mathlib.Omega.{arith}
-use mathlib.Core.Path.{_≡_, refl, sym, ap, _∙_, subst}
-use mathlib.Core.Bool.{Bool, true, false, not, _&&_, _||_, true≢false, false≢true}
-use mathlib.Core.List.{List, [], _∷_, _++_}
-use lib.ListN.{length, drop, replicate}
-use lib.Dec.{ltb, leb, eqb}
+use mathlib.Core.Path.{_≡_, refl, sym, subst}
+use mathlib.Core.Bool.{Bool, true, false, _&&_, _||_, true≢false, false≢true}
+use mathlib.Core.List.{List}
+use lib.ListN.{length}
+use lib.Dec.{ltb, eqb}
 use borrow.Author.Tests.{eqb-true, not-false}
 use Rattle.gil.specs.Tree.{Proc, Name}
 use Rattle.gil.specs.Reading.{Read, faulty, read, procedures}
-use Rattle.gil.specs.Names.{Program, Checked, refused, accepted, checkText, tested, refusedIf, overLimits, wrongNames, wrongJump, wrongEnd, numberProgram}
-use Rattle.gil.specs.Rows.{Row}
-use Rattle.gil.specs.Pool.{Pool, Ref, table}
-use Rattle.gil.specs.Calls.{firstOf, wrongBudgets, wrongBudget, shortTables, wrongInputs, textAnswer, checkCall, PlainAnswer, plainOn, plainCall, TableAnswer, tablesAfter, exploreOn, succeeds, exploreCall, placesIn, placeCall}
-use Rattle.gil.specs.Layout.{answerLength}
+use Rattle.gil.specs.Names.{Program, Checked, refused, accepted, checkText, tested, refusedIf, overLimits, wrongNames, wrongJump, wrongEnd}
+use Rattle.gil.specs.Calls.{firstOf, wrongInputs, textAnswer, checkCall}
 
 -- a text is refused by its number, which is not 0, or accepted
 pub data Judged (text : List ℕ) : ℕ → Type 0 where

@@ -1,8 +1,6 @@
 -- The three demands hold of the exported calls: whatever outcomes they have under their promises, these are the answers of a version of the
 -- four calls that meets every demand (crates/demands/specs/Demands.antt says what is demanded). Assumes nothing.
-use Prim.Native.Nat.{ℕ}
-use mathlib.Core.List.{List}
-use Rattle.demands.specs.Demands.{FourCalls, Demand1, Demand2, Demand3, Same, all-demands}
+use Rattle.demands.specs.Demands.{FourCalls, Demand1, Demand2, Demand3, all-demands}
 use Rattle.bench.specs.Outcomes.{Call, check, plainRun, explore, place, Outcome, Promise}
 
 -- the exported calls as they come out, for all that they can be given

@@ -1,22 +1,19 @@
 -- The plain run's answer at each of its tests and after them: the laws that its proof cites. Assumes nothing.
 use Prim.Native.Nat.{ℕ, _≤_, _<_}
-use native.Mathlib.Omega.{arith}
-use mathlib.Core.Path.{_≡_, refl, sym, ap, _∙_, subst₂}
-use mathlib.Core.Bool.{Bool, true, false, _||_}
+use mathlib.Core.Path.{_≡_, sym, ap, _∙_, subst₂}
+use mathlib.Core.Bool.{true, false, _||_}
 use mathlib.Core.List.{List}
-use lib.ListN.{length, getD, drop}
-use lib.Dec.{ltb, eqb}
-use borrow.Author.Tests.{lt-ltb, le-ltb, ltb-false, eqb-true, not-false}
-use Rattle.gil.specs.Names.{Program, refused, accepted, checkText}
-use Rattle.gil.specs.Calls.{wrongBudget, wrongInputs, checkCall, PlainAnswer, plainOn, plainCall}
+use lib.ListN.{length}
+use lib.Dec.{ltb}
+use borrow.Author.Tests.{lt-ltb, le-ltb, ltb-false}
+use Rattle.gil.specs.Calls.{wrongBudget, wrongInputs, PlainAnswer, plainOn, plainCall}
 use Rattle.gil.specs.Layout.{answerLength, inputWords}
-use Rattle.code.specs.Code.{programWords}
 use Rattle.code.specs.Accepted.{accepted-well-formed}
 use Rattle.locate.specs.Inputs.{Bytes}
 use Rattle.run.specs.Ran.{Answered}
 use Rattle.run.specs.Laws.{run-leaves}
 use Rattle.programs.specs.Reads.{Reads}
-use Rattle.bench.specs.Answers.{first-budget, first-lent, first-text, refused-by, Accepts, accepted-by, or-first, or-second, or-neither}
+use Rattle.bench.specs.Answers.{first-budget, first-lent, first-text, refused-by, accepted-by, or-first, or-second, or-neither}
 use Rattle.bench.specs.Inputs.{words-small}
 
 module _ (text inputs : List ℕ) (steps : ℕ) (answer : List ℕ) where

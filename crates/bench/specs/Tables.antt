@@ -1,6 +1,5 @@
 -- What explore and place answer and leave at each of their tests and after them: the laws that their proofs cite. Assumes nothing.
-use Prim.Native.Nat.{ℕ, _+_, _≤_, _<_}
-use native.Mathlib.Omega.{arith}
+use Prim.Native.Nat.{ℕ, _+_, _≤_}
 use mathlib.Core.Path.{_≡_, refl, sym, ap, ap₂, _∙_, subst}
 use mathlib.Core.Bool.{Bool, true, false, not, _||_, _&&_}
 use mathlib.Core.List.{List, _++_}
@@ -8,7 +7,7 @@ use lib.ListN.{length, take, drop}
 use lib.Seq.{length-take-le}
 use lib.Dec.{ltb, leb}
 use borrow.Author.Tests.{ltb-false, leb-true, not-false}
-use Rattle.gil.specs.Names.{Program, Checked, refused, accepted, checkText}
+use Rattle.gil.specs.Names.{Program, refused, accepted, checkText}
 use Rattle.gil.specs.Rows.{Row}
 use Rattle.gil.specs.Explore as Explore
 use Rattle.gil.specs.Pool.{Pool, Ref}
@@ -24,7 +23,7 @@ use Rattle.locate.specs.Place.{place-law}
 use Rattle.walk.specs.Walked.{Explored, exploreIn}
 use Rattle.walk.specs.Leaves.{ExploredAs, wasRefused, wasExplored, explore-as, explore-leaves}
 use Rattle.programs.specs.Reads.{Reads}
-use Rattle.bench.specs.Answers.{first-budget, first-lent, first-text, refused-by, Accepts, accepted-by, or-first, or-second, or-neither, or-false, and-second, inputs-long}
+use Rattle.bench.specs.Answers.{first-budget, first-lent, first-text, refused-by, accepted-by, or-first, or-second, or-neither, or-false, and-second, inputs-long}
 
 -- the exploration of the needed parts, and the surplus as it was
 pub record Leaves (code : List ℕ) (steps branches : ℕ) (t w : List ℕ) (r : ℕ) (t′ w′ : List ℕ) : Type 0 where

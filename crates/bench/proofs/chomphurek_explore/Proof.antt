@@ -1,3 +1,4 @@
+-- `bench::chomphurek_explore` meets its contract. Assumes nothing.
 use mathlib.Core.Path.{refl, sym, _∙_}
 use Rattle.bench.specs.Tables.{explore-budgets, explore-short, explore-refused, explore-explores, tables-long}
 use borrow.Author.Needs.{needs}

@@ -1,3 +1,4 @@
+-- `bench::chomphurek_place` meets its contract. Assumes nothing.
 use native.Mathlib.Omega.{arith}
 use mathlib.Core.Path.{refl, sym, _∙_}
 use Rattle.bench.specs.Tables.{place-budgets, place-inputs, place-short, place-refused, place-full, place-places, tables-long}

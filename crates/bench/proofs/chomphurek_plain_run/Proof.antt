@@ -1,8 +1,6 @@
+-- `bench::chomphurek_plain_run` meets its contract. Assumes nothing.
 use native.Mathlib.Omega.{arith}
-use mathlib.Core.Path.{refl, sym, _∙_, _≡_, subst}
-use lib.ListN.{length}
-use borrow.Author.Tests.{eqb-true, not-false}
-use Rattle.gil.specs.Calls.{wrongInputs}
+use mathlib.Core.Path.{refl, sym, _∙_}
 use Rattle.bench.specs.Plain.{plain-budget, plain-inputs, plain-short, plain-refused, plain-runs}
 use Rattle.bench.specs.Answers.{inputs-long}
 use borrow.Author.Needs.{needs}

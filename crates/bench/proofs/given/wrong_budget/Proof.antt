@@ -1,3 +1,4 @@
+-- `bench::given::wrong_budget` meets its contract. Assumes nothing.
 use mathlib.Core.Path.{refl}
 use Rattle.gil.specs.Calls.{wrongBudget}
 use Rattle.bench.proofs.given.wrong_budget.Statement.{statement}

@@ -1,5 +1,5 @@
-use mathlib.Core.Path.{refl}
-use borrow.Author.Tests.{lt-leb, le-leb, le-ltb, lt-ltb}
+-- `bench::given::wrong_budgets` meets its contract. Assumes nothing.
+use borrow.Author.Tests.{lt-leb, le-leb}
 use Rattle.gil.specs.Calls.{wrongBudgets}
 use Rattle.bench.proofs.given.wrong_budgets.Statement.{statement}
 use Rattle.bench.proofs.given.wrong_budgets.Tie as tie

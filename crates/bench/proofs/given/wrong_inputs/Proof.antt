@@ -1,3 +1,4 @@
+-- `bench::given::wrong_inputs` meets its contract. Assumes nothing.
 use mathlib.Core.Path.{refl}
 use Rattle.gil.specs.Calls.{wrongInputs}
 use Rattle.bench.proofs.given.wrong_inputs.Statement.{statement}

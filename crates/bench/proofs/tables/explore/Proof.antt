@@ -1,3 +1,4 @@
+-- `bench::tables::explore` meets its contract. Assumes nothing.
 use lib.Seq.{length-take-le}
 use mathlib.Core.Path.{sym}
 use Rattle.bench.specs.Tables.{leaves}
