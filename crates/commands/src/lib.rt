@@ -333,7 +333,7 @@ pub fn step(
         8 => receive(c, m.target, known, inputs, store, pool, count),
         11 => Next::Vanished,
         _ => {
-            let v = evaluate::evaluate(code, m.first, store, c.frame, pool, count);
+            let v = evaluate::value(code, m.first, store, c.frame, pool, count);
             if v < VALUES {
                 return Next::Error(values::word(v));
             }

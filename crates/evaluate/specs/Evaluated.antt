@@ -1,5 +1,6 @@
 -- What the functions of this crate answer and leave, on words. Assumes nothing.
 use Prim.Native.Nat.{ℕ, zero, suc, _+_, _*_}
+use mathlib.Core.Path.{_≡_}
 use mathlib.Core.List.{List}
 use lib.ListN.{getD}
 use lib.Dec.{ltb, eqb}
@@ -47,3 +48,8 @@ module _ (code store : List ℕ) (frame : ℕ) where
 
   unfoldable pub evaluateIn : ℕ → List ℕ → ℕ → Did
   evaluateIn at pool count = operandIn 8 at pool count
+
+  -- a value worked out without a call is the operator's; 0 says nothing
+  pub data Simple (at : ℕ) : ℕ → Type 0 where
+    notSimple : Simple at 0
+    isSimple : {v : ℕ} → ((pool : List ℕ) (count : ℕ) → did v pool count ≡ operatorIn 8 at pool count) → Simple at v

@@ -1,12 +1,16 @@
 -- The ways through an operator's evaluation, each as one law over words. Assumes nothing.
-use Prim.Native.Nat.{ℕ, zero, suc, _+_, _-_, _<_, _≤_}
+use Prim.Native.Nat.{ℕ, zero, suc, _+_, _-_, _%_, _<_, _≤_}
+use mathlib.Core.Bool.{true}
 use mathlib.Core.Path.{_≡_, refl}
 use mathlib.Core.List.{List}
 use native.Mathlib.Numerals.{sub-one}
+use native.Mathlib.Omega.{arith}
 use lib.ListN.{getD}
 use borrow.Author.Tests.{eq-eqb, ne-eqb, lt-ltb, le-ltb}
-use Rattle.terms.specs.Made.{Did, did, operateIn, negateIn}
-use Rattle.evaluate.specs.Evaluated.{andThenIn, secondBy, operatorBy, operatorIn, operandIn}
+use Rattle.values.specs.Packed.{workWord}
+use Rattle.terms.specs.Made.{Did, did, neededIn, operateIn, negateIn}
+use Rattle.terms.specs.Worked.{needed-value, worked}
+use Rattle.evaluate.specs.Evaluated.{andThenIn, leafIn, operandBy, secondBy, operatorBy, operatorIn, operandIn, Simple, notSimple, isSimple}
 
 pub then-stops : {a n : ℕ} {p : List ℕ} {D : Did} (f : ℕ → List ℕ → ℕ → Did) → did a p n ≡ D → a < 4294967296 → did a p n ≡ andThenIn D f
 unfolding andThenIn
@@ -61,3 +65,27 @@ module _ (code store : List ℕ) (frame : ℕ) where
           operates {x} kb k =
               rw (step d at pool count nz)
               (simp (lt-ltb at 18993 h) (then-goes _ e ka (simp (ne-eqb _ _ other) (then-goes _ f kb k))))
+
+  -- an operand that is a leaf, and an operator on two of the sort that it needs
+  leaf-is : {v : ℕ} (d at : ℕ) (pool : List ℕ) (count : ℕ) → v ≡ leafIn code store frame at → 4294967296 ≤ v
+      → did v pool count ≡ operandIn code store frame d at pool count
+  unfolding operandIn operandBy
+  leaf-is {v} d at pool count e h = simp (← e, ne-eqb v 0 (λ z. absurd (omega arith)))
+
+  pub simply-worked : {at a b v : ℕ} → at < 18993 → (getD code at 0 ≡ 4 → ⊥) → a ≡ leafIn code store frame (at + 2) → 4294967296 ≤ a
+      → b ≡ leafIn code store frame (at + 2 + getD code (at + 1) 0)
+      → neededIn (getD code at 0) a b ≡ true
+      → v ≡ workWord (getD code at 0) (a % 4294967296) (b % 4294967296)
+      → Simple code store frame at v
+  simply-worked {at} {a} {b} h other ea ka eb fits e =
+      let kb : 4294967296 ≤ b = needed-value (getD code at 0) a b fits in
+      isSimple
+      (λ pool count.
+      operates pool count (λ z. absurd (omega arith)) h (leaf-is 7 (at + 2) pool count ea ka) ka other
+      (leaf-is 7 (at + 2 + getD code (at + 1) 0) pool count eb kb) kb
+      (worked (getD code at 0) a b pool count fits e))
+
+  pub simply : {at v : ℕ} (pool : List ℕ) (count : ℕ) → Simple code store frame at v → (v ≡ 0 → ⊥)
+      → did v pool count ≡ operatorIn code store frame 8 at pool count
+  simply pool count notSimple h = absurd (h refl)
+  simply pool count (isSimple f) h = f pool count

@@ -5,7 +5,7 @@
 ghost use mathlib.Core.Path.{_≡_};
 ghost use Prim.Native.Nat.{_<_};
 ghost use Rattle.terms.specs.Made.{did};
-ghost use Rattle.evaluate.specs.Evaluated.{variableIn, leafIn, operandIn, operatorIn, evaluateIn};
+ghost use Rattle.evaluate.specs.Evaluated.{variableIn, leafIn, operandIn, operatorIn, evaluateIn, Simple};
 use code::CODE_WORDS;
 use values::FALSE;
 use values::VALUES;
@@ -108,6 +108,51 @@ fn operator(
         return b;
     }
     terms::operate(pool, count, kind, a, b)
+}
+
+// An operator on two leaves of the sort that it needs, worked out without a call; 0 where anything else stands
+fn simple(code: &[u32; CODE_WORDS], at: usize, store: &[u64; STORE_WORDS], frame: u32) -> u64
+    ensures { λ r. ⌜ Simple (now (code .entry)) (now (store .entry)) frame at r ⌝ }
+{
+    if CODE_WORDS - 1 <= at {
+        return 0;
+    }
+    let kind = code[at];
+    let a = leaf(code, at + 2, store, frame);
+    if a < VALUES {
+        return 0;
+    }
+    if kind == 4 {
+        return 0;
+    }
+    let second = at + 2 + wide(code[at + 1]);
+    let b = leaf(code, second, store, frame);
+    if terms::needed(kind, a, b) {
+        return values::work(kind, values::word(a), values::word(b));
+    }
+    0
+}
+
+// As `evaluate`, with the common case first. Called at one place, where the compiler takes it in whole.
+pub fn value(
+    code: &[u32; CODE_WORDS],
+    at: u32,
+    store: &[u64; STORE_WORDS],
+    frame: u32,
+    pool: &mut [u8],
+    count: &mut u32,
+) -> u64
+    ensures { λ r. ⌜ did r (now (pool .exit)) (now (count .exit)) ≡ evaluateIn (now (code .entry)) (now (store .entry)) frame at (now (pool .entry)) (now (count .entry)) ⌝ }
+{
+    let v = leaf(code, at as usize, store, frame);
+    if v == 0 {
+        let w = simple(code, at as usize, store, frame);
+        if w == 0 {
+            return operator(code, at as usize, DEPTH, store, frame, pool, count);
+        }
+        return w;
+    }
+    v
 }
 
 // As `operand`, and not by a call of it: the compiler then takes `operand` into `operator`, so that a leaf costs no call.

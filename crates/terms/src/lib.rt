@@ -71,7 +71,7 @@ fn term(pool: &mut [u8], count: &mut u32, kind: u32, a: u64, b: u64) -> u64
 }
 
 // Two constants of the sort that the operator needs: the common case, told by their tags alone
-fn needed(kind: u32, a: u64, b: u64) -> bool
+pub fn needed(kind: u32, a: u64, b: u64) -> bool
     ensures { λ r. ⌜ r ≡ neededIn kind a b ⌝ }
 {
     let sort = values::needed(kind);

@@ -15,8 +15,8 @@ receive-requires : tie.Need-receive-requires
 receive-requires c κs = search needs
 
 -- src/lib.rt:314:17
-evaluate-requires : tie.Need-evaluate-requires
-evaluate-requires c κs = search needs
+value-requires : tie.Need-value-requires
+value-requires c κs = search needs
 
 -- src/lib.rt:316:36
 word-requires : tie.Need-word-requires
@@ -29,7 +29,7 @@ same-length c = search needs
 -- src/lib.rt:316:17
 returns : tie.Need-returns
 unfolding stepIn
-returns c = simp (ne-eqb _ _ (c .before .before .before .before .before .before .before .before .match .rest .0 .0 .1), ne-eqb _ _ (c .before .before .before .before .before .before .before .before .match .rest .0 .1), ne-eqb _ _ (c .before .before .before .before .before .before .before .before .match .rest .1)) (value-errs _ _ (c .before .before .before .before .evaluate .ensures) (c .before .if1 .taken) (c .word .ensures))
+returns c = simp (ne-eqb _ _ (c .before .before .before .before .before .before .before .before .match .rest .0 .0 .1), ne-eqb _ _ (c .before .before .before .before .before .before .before .before .match .rest .0 .1), ne-eqb _ _ (c .before .before .before .before .before .before .before .before .match .rest .1)) (value-errs _ _ (c .before .before .before .before .value .ensures) (c .before .if1 .taken) (c .word .ensures))
 
 -- src/lib.rt:318:13
 act-requires : tie.Need-act-requires
@@ -61,7 +61,7 @@ same-length-3 c = search needs
 -- src/lib.rt:296:1
 returns-5 : tie.Need-returns-5
 unfolding stepIn
-returns-5 c = simp (ne-eqb _ _ (c .before .before .before .before .before .before .before .before .before .match .rest .0 .0 .1), ne-eqb _ _ (c .before .before .before .before .before .before .before .before .before .match .rest .0 .1), ne-eqb _ _ (c .before .before .before .before .before .before .before .before .before .match .rest .1)) (value-acts _ _ (c .before .before .before .before .before .evaluate .ensures) (c .before .before .if1 .left) (c .act .ensures))
+returns-5 c = simp (ne-eqb _ _ (c .before .before .before .before .before .before .before .before .before .match .rest .0 .0 .1), ne-eqb _ _ (c .before .before .before .before .before .before .before .before .before .match .rest .0 .1), ne-eqb _ _ (c .before .before .before .before .before .before .before .before .before .match .rest .1)) (value-acts _ _ (c .before .before .before .before .before .value .ensures) (c .before .before .if1 .left) (c .act .ensures))
 
 pub step-spec : {M : Type 1} → statement M
 step-spec =
@@ -69,7 +69,7 @@ step-spec =
     (tie.spec
     locate-requires
     receive-requires
-    evaluate-requires
+    value-requires
     word-requires
     same-length
     returns
