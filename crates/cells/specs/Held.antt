@@ -1,15 +1,16 @@
 -- The cells in use, as the machine's cells: a value is its word. Assumes nothing.
-use Prim.Native.Nat.{ℕ, zero, suc, _+_, _-_, min}
-use mathlib.Core.Bool.{true, false}
+use Prim.Native.Nat.{ℕ, zero, suc, _+_, _-_, _<_}
+use mathlib.Core.Bool.{Bool, true, false, _&&_, _||_}
 use mathlib.Core.List.{List, [], _∷_, _++_, map}
 use mathlib.Core.Option.{Option, none, some}
-use lib.ListN.{take, drop}
+use mathlib.Core.Path.{_≡_}
+use lib.Dec.{ltb}
+use lib.ListN.{length, getD, take, drop}
 use Rattle.gil.specs.Values.{Value, const, term}
 use Rattle.gil.specs.Machine as Machine
 use Rattle.gil.specs.Machine.{isAt, isBefore}
 use Rattle.cells.specs.declared.Cell.{Cell}
-use Rattle.cells.specs.declared.Place.{Place}
-use Rattle.cells.specs.declared.Place.the-variants.{Holds, Free}
+use Rattle.cells.specs.declared.Found.{Found}
 
 -- what an array of cells begins with
 abbrev pub noCell : Cell
@@ -34,14 +35,28 @@ abbrev pub foundIn : Option (Value ℕ) → ℕ
 foundIn none = 0
 foundIn (some v) = wordOf v
 
--- where a cell is put, counting from `k`: its own place, or that of the first cell that comes after it
-unfoldable pub placeFrom : ℕ → ℕ → ℕ → List (Machine.Cell ℕ) → Place
-placeFrom l q k [] = Free k
-placeFrom l q k (c ∷ cs) =
-    elim (isAt l q c) [
-      | true ↦ Holds k
-      | false ↦ elim (isBefore l q c) [ true ↦ Free k | false ↦ placeFrom l q (suc k) cs ]
-    ]
+-- where a search ends: at the cell sought and, if it `stops`, at the first beyond it
+unfoldable pub reaches : Bool → ℕ → ℕ → Machine.Cell ℕ → Bool
+reaches stops l q c = isAt l q c || stops && isBefore l q c
+
+-- the first place, counted from `k`, where it ends
+unfoldable pub placeFrom : Bool → ℕ → ℕ → ℕ → List (Machine.Cell ℕ) → ℕ
+placeFrom stops l q k [] = k
+placeFrom stops l q k (c ∷ cs) = elim (reaches stops l q c) [ true ↦ k | false ↦ placeFrom stops l q (suc k) cs ]
+
+-- whether the first cell is the one sought
+unfoldable pub leads : ℕ → ℕ → List (Machine.Cell ℕ) → Bool
+leads l q [] = false
+leads l q (c ∷ cs) = isAt l q c
+
+-- what a search answers: where it ended, and, where a cell is in use there, that cell
+abbrev pub FoundAt : Bool → ℕ → ℕ → ℕ → List Cell → Found → Type 0
+FoundAt stops l q held cells f =
+    (f .place ≡ placeFrom stops l q 0 (heldIn held cells)) × (f .place < held → f .place < length cells → f .cell ≡ getD cells (f .place) noCell)
+
+-- whether that is the cell sought
+unfoldable pub hits : ℕ → ℕ → ℕ → Found → Bool
+hits l q held f = ltb (f .place) held && ltb (f .place) 32 && isAt l q (cellOf (f .cell))
 
 -- a cell pushed in front of the first `k`, the last of which drops out
 unfoldable pub shiftIn : {A : Type 0} → ℕ → A → List A → List A
@@ -49,6 +64,6 @@ shiftIn zero c l = l
 shiftIn (suc k) c [] = []
 shiftIn (suc k) c (x ∷ l) = c ∷ shiftIn k x l
 
--- a cell put in at a place, the cells in use from there on moved up
-unfoldable pub insertIn : ℕ → ℕ → Cell → List Cell → List Cell
-insertIn held at c cells = take at cells ++ shiftIn (min (held + 1) 32 - at) c (drop at cells)
+-- a cell put in at a place, the cells from there up to the place `last` moved up
+unfoldable pub carriedIn : ℕ → ℕ → Cell → List Cell → List Cell
+carriedIn at last c cells = take at cells ++ shiftIn (last + 1 - at) c (drop at cells)

@@ -1,20 +1,21 @@
 -- Laws of the cells in use that the loops go by. Assumes nothing.
-use Prim.Native.Nat.{ℕ, suc, _+_, _-_, _<_, _≤_, min}
-use mathlib.Core.Bool.{Bool, true, false}
-use mathlib.Core.Path.{_≡_, sym, _∙_, ap, ap₂}
+use Prim.Native.Nat.{ℕ, suc, _+_, _-_, _<_, _≤_}
+use mathlib.Core.Bool.{Bool, true, false, _&&_}
+use mathlib.Core.Path.{_≡_, refl, sym, _∙_, ap, ap₂}
 use mathlib.Core.List.{List, [], _∷_, _++_, map, map-append, append-nil}
 use mathlib.Core.Option.{some}
 use native.Mathlib.Numerals.{add-one}
 use native.Mathlib.Omega.{arith}
 use lib.ListN.{length, getD, take, drop, set, length-take, drop-of-length-le, take-append-drop, length-map}
-use lib.Dec.{eqb}
-use lib.Seq.{drop-cons, getD-take, take-suc-set, drop-set-lt, append-snoc, length-take-le}
+use lib.Dec.{eqb, ltb}
+use lib.Seq.{drop-cons, getD-take, take-suc-set, take-set-lt, drop-set-lt, append-snoc, length-take-le}
+use borrow.Author.Tests.{ltb-true, ltb-false}
+use Rattle.gil.specs.Theory.Tests.{no-false, and-left, and-right}
 use Rattle.gil.specs.Machine as Machine
-use Rattle.gil.specs.Machine.{isAt, isBefore, cellAt, withoutCells}
+use Rattle.gil.specs.Machine.{isAt, cellAt, withoutCells}
 use Rattle.cells.specs.declared.Cell.{Cell}
-use Rattle.cells.specs.declared.Place.{Place}
-use Rattle.cells.specs.declared.Place.the-variants.{Holds, Free}
-use Rattle.cells.specs.Held.{cellOf, noCell, heldIn, fromIn, foundIn, placeFrom, shiftIn, insertIn}
+use Rattle.cells.specs.declared.Found.{Found}
+use Rattle.cells.specs.Held.{cellOf, noCell, heldIn, fromIn, foundIn, reaches, placeFrom, leads, FoundAt, hits, shiftIn, carriedIn}
 
 -- those in use from a place on: none past the end, else the one that stands there and those behind it
 module _ {A : Type 0} (i n : ℕ) (l : List A) where
@@ -48,31 +49,25 @@ module _ {T : Type 0} (l : ℕ) (c : Machine.Cell T) (cs : List (Machine.Cell T)
   unfolding withoutCells
   without-other e = ap (λ (b : Bool). elim b [ true ↦ withoutCells l cs | false ↦ c ∷ withoutCells l cs ]) e
 
-module _ (l q : ℕ) (k : ℕ) (c : Machine.Cell ℕ) (cs : List (Machine.Cell ℕ)) where
-  place-by : Bool → Bool → Place
-  place-by a b = elim a [ true ↦ Holds k | false ↦ elim b [ true ↦ Free k | false ↦ placeFrom l q (suc k) cs ] ]
+-- where the search ends
+module _ (s : Bool) (l q k : ℕ) (c : Machine.Cell ℕ) (cs : List (Machine.Cell ℕ)) where
+  pub place-here : reaches s l q c ≡ true → placeFrom s l q k (c ∷ cs) ≡ k
+  unfolding placeFrom
+  place-here e = ap (λ (b : Bool). elim b [ true ↦ k | false ↦ placeFrom s l q (suc k) cs ]) e
 
-  pub place-here : isAt l q c ≡ true → placeFrom l q k (c ∷ cs) ≡ Holds k
-  unfolding placeFrom place-by
-  place-here e = ap (λ (a : Bool). place-by a (isBefore l q c)) e
-
-  pub place-before : isAt l q c ≡ false → isBefore l q c ≡ true → placeFrom l q k (c ∷ cs) ≡ Free k
-  unfolding placeFrom place-by
-  place-before e f = ap₂ (λ (a b : Bool). place-by a b) e f
-
-  pub place-later : isAt l q c ≡ false → isBefore l q c ≡ false → placeFrom l q k (c ∷ cs) ≡ placeFrom l q (suc k) cs
-  unfolding placeFrom place-by
-  place-later e f = ap₂ (λ (a b : Bool). place-by a b) e f
+  pub place-later : reaches s l q c ≡ false → placeFrom s l q k (c ∷ cs) ≡ placeFrom s l q (suc k) cs
+  unfolding placeFrom
+  place-later e = ap (λ (b : Bool). elim b [ true ↦ k | false ↦ placeFrom s l q (suc k) cs ]) e
 
 -- a loop that stands at place i: nothing is left
 module _ (i n : ℕ) (cells : List Cell) where
-  pub found-none : (l q : ℕ) → drop i (take n cells) ≡ [] → foundIn (cellAt l q (fromIn i n cells)) ≡ 0
-  unfolding cellAt
-  found-none l q e = ap (λ (cs : List Cell). foundIn (cellAt l q (map cellOf cs))) e
-
-  pub place-none : (l q : ℕ) → drop i (take n cells) ≡ [] → placeFrom l q i (fromIn i n cells) ≡ Free i
+  pub place-none : (s : Bool) (l q : ℕ) → drop i (take n cells) ≡ [] → placeFrom s l q i (fromIn i n cells) ≡ i
   unfolding placeFrom
-  place-none l q e = ap (λ (cs : List Cell). placeFrom l q i (map cellOf cs)) e
+  place-none s l q e = ap (λ (cs : List Cell). placeFrom s l q i (map cellOf cs)) e
+
+  pub leads-none : (l q : ℕ) → drop i (take n cells) ≡ [] → leads l q (fromIn i n cells) ≡ false
+  unfolding leads
+  leads-none l q e = ap (λ (cs : List Cell). leads l q (map cellOf cs)) e
 
   pub without-none : (l : ℕ) → drop i (take n cells) ≡ [] → withoutCells l (fromIn i n cells) ≡ []
   unfolding withoutCells
@@ -83,27 +78,23 @@ module _ (i n : ℕ) (cells : List Cell) where
     split : fromIn i n cells ≡ cellOf (getD cells i noCell) ∷ fromIn (i + 1) n cells
     split = ap (map cellOf) (from-more i n cells noCell hn hl)
 
-    pub found-here : (l q : ℕ) → isAt l q (cellOf (getD cells i noCell)) ≡ true
-        → foundIn (cellAt l q (fromIn i n cells)) ≡ getD cells i noCell .value
-    found-here l q e = ap (λ (cs : List (Machine.Cell ℕ)). foundIn (cellAt l q cs)) split ∙ ap foundIn (at-here l q _ _ e)
+    pub leads-here : (l q : ℕ) → leads l q (fromIn i n cells) ≡ isAt l q (cellOf (getD cells i noCell))
+    unfolding leads
+    leads-here l q = ap (leads l q) split
 
-    pub found-later : (l q : ℕ) → isAt l q (cellOf (getD cells i noCell)) ≡ false
-        → foundIn (cellAt l q (fromIn i n cells)) ≡ foundIn (cellAt l q (fromIn (i + 1) n cells))
-    found-later l q e = ap (λ (cs : List (Machine.Cell ℕ)). foundIn (cellAt l q cs)) split ∙ ap foundIn (at-later l q _ _ e)
+    pub found-here : (l q : ℕ) → leads l q (fromIn i n cells) ≡ true → foundIn (cellAt l q (fromIn i n cells)) ≡ getD cells i noCell .value
+    found-here l q e =
+        ap (λ (cs : List (Machine.Cell ℕ)). foundIn (cellAt l q cs)) split ∙ ap foundIn (at-here l q _ _ (sym (leads-here l q) ∙ e))
 
-    pub placed-here : (l q : ℕ) → isAt l q (cellOf (getD cells i noCell)) ≡ true → placeFrom l q i (fromIn i n cells) ≡ Holds i
-    placed-here l q e = ap (placeFrom l q i) split ∙ place-here l q i _ _ e
+    pub placed-here : (s : Bool) (l q : ℕ) → reaches s l q (cellOf (getD cells i noCell)) ≡ true → placeFrom s l q i (fromIn i n cells) ≡ i
+    placed-here s l q e = ap (placeFrom s l q i) split ∙ place-here s l q i _ _ e
 
-    pub placed-before : (l q : ℕ) → isAt l q (cellOf (getD cells i noCell)) ≡ false → isBefore l q (cellOf (getD cells i noCell)) ≡ true
-        → placeFrom l q i (fromIn i n cells) ≡ Free i
-    placed-before l q e f = ap (placeFrom l q i) split ∙ place-before l q i _ _ e f
-
-    pub placed-later : (l q : ℕ) → isAt l q (cellOf (getD cells i noCell)) ≡ false → isBefore l q (cellOf (getD cells i noCell)) ≡ false
-        → placeFrom l q i (fromIn i n cells) ≡ placeFrom l q (i + 1) (fromIn (i + 1) n cells)
-    placed-later l q e f =
-        ap (placeFrom l q i) split
-        ∙ place-later l q i _ _ e f
-        ∙ ap (λ (k : ℕ). placeFrom l q k (fromIn (i + 1) n cells)) (sym (add-one i))
+    pub placed-later : (s : Bool) (l q : ℕ) → reaches s l q (cellOf (getD cells i noCell)) ≡ false
+        → placeFrom s l q i (fromIn i n cells) ≡ placeFrom s l q (i + 1) (fromIn (i + 1) n cells)
+    placed-later s l q e =
+        ap (placeFrom s l q i) split
+        ∙ place-later s l q i _ _ e
+        ∙ ap (λ (k : ℕ). placeFrom s l q k (fromIn (i + 1) n cells)) (sym (add-one i))
 
     pub taken-out : (l : ℕ) → eqb l (getD cells i noCell .location .0) ≡ true
         → withoutCells l (fromIn i n cells) ≡ withoutCells l (fromIn (i + 1) n cells)
@@ -113,16 +104,49 @@ module _ (i n : ℕ) (cells : List Cell) where
         → withoutCells l (fromIn i n cells) ≡ cellOf (getD cells i noCell) ∷ withoutCells l (fromIn (i + 1) n cells)
     left-in l e = ap (withoutCells l) split ∙ without-other l _ _ e
 
+-- whether the cell sought stands at a place says that there is one
+pub leads-inside : (l q i n : ℕ) (cells : List Cell) → leads l q (fromIn i n cells) ≡ true → (i < n) × (i < length cells)
+leads-inside l q i n cells t = (within (ltb i n) refl, there (ltb i (length cells)) refl)
+  where
+    within : (b : Bool) → ltb i n ≡ b → i < n
+    within true e = ltb-true i n e
+    within false e = no-false t (leads-none i n cells l q (from-none i n cells (ltb-false i n e)))
+
+    there : (b : Bool) → ltb i (length cells) ≡ b → i < length cells
+    there true e = ltb-true i (length cells) e
+    there false e = no-false t (leads-none i n cells l q (from-end i n cells (ltb-false i (length cells) e)))
+
+pub hits-inside : (l q held : ℕ) (f : Found) → hits l q held f ≡ true → f .place < 32
+unfolding hits
+hits-inside l q held f e =
+    ltb-true (f .place) 32
+    (and-right (ltb (f .place) held) (ltb (f .place) 32) (and-left (ltb (f .place) held && ltb (f .place) 32) (isAt l q (cellOf (f .cell))) e))
+
+-- what was found is what stands there
+module _ (s : Bool) (l q held : ℕ) (cells : List Cell) (whole : length cells ≡ 32) (f : Found) (is : FoundAt s l q held cells f) where
+  hits-by : (a b : Bool) → ltb (f .place) held ≡ a → ltb (f .place) 32 ≡ b
+      → a && b && isAt l q (cellOf (f .cell)) ≡ leads l q (fromIn (f .place) held cells)
+  hits-by true true d e =
+      let h : f .place < held = ltb-true (f .place) held d in
+      let k : f .place < length cells = omega (arith, ltb-true (f .place) 32 e, whole) in
+      ap (λ (c : Cell). isAt l q (cellOf c)) (is .1 h k) ∙ sym (leads-here (f .place) held cells h k l q)
+  hits-by true false d e =
+      let k : length cells ≤ f .place = omega (arith, ltb-false (f .place) 32 e, whole) in
+      sym (leads-none (f .place) held cells l q (from-end (f .place) held cells k))
+  hits-by false b d e = sym (leads-none (f .place) held cells l q (from-none (f .place) held cells (ltb-false (f .place) held d)))
+
+  pub hits-leads : {b : Bool} → hits l q held f ≡ b → leads l q (fromIn (f .place) held cells) ≡ b
+  unfolding hits
+  hits-leads e = sym (hits-by (ltb (f .place) held) (ltb (f .place) 32) refl refl) ∙ e
+
 -- a cell carried upward by one
-module _ (held : ℕ) (i : ℕ) (c : Cell) (out : List Cell) where
-  pub carried-up : i < 32 → i ≤ held → length out ≡ 32
-      → insertIn held i c out ≡ insertIn held (i + 1) (getD out i noCell) (set out i c)
-  unfolding insertIn shiftIn
-  carried-up h k len =
+module _ (last : ℕ) (i : ℕ) (c : Cell) (out : List Cell) where
+  pub carried-up : i ≤ last → i < length out → carriedIn i last c out ≡ carriedIn (i + 1) last (getD out i noCell) (set out i c)
+  unfolding carriedIn shiftIn
+  carried-up h inside =
       let x = getD out i noCell in
-      let n = min (held + 1) 32 - (i + 1) in
-      let e : min (held + 1) 32 - i ≡ suc n = omega arith in
-      let inside : i < length out = omega arith in
+      let n = last + 1 - (i + 1) in
+      let e : last + 1 - i ≡ suc n = omega arith in
       let f : drop i out ≡ x ∷ drop (suc i) out = drop-cons out i noCell inside in
       let g : drop (suc i) (set out i c) ≡ drop (suc i) out = drop-set-lt (suc i) out i c (omega arith) in
       let t : take (suc i) (set out i c) ≡ take i out ++ (c ∷ []) = take-suc-set out i c inside in
@@ -131,25 +155,39 @@ module _ (held : ℕ) (i : ℕ) (c : Cell) (out : List Cell) where
       ∙ ap₂ (λ (a b : List Cell). a ++ shiftIn n x b) (sym t) (sym g)
       ∙ ap (λ (j : ℕ). take j (set out i c) ++ shiftIn n x (drop j (set out i c))) (sym (add-one i))
 
-  pub carried-all : min (held + 1) 32 ≤ i → insertIn held i c out ≡ out
-  unfolding insertIn shiftIn
+  pub carried-all : last < i → carriedIn i last c out ≡ out
+  unfolding carriedIn shiftIn
   carried-all h =
-      let e : min (held + 1) 32 - i ≡ 0 = omega arith in
+      let e : last + 1 - i ≡ 0 = omega arith in
       ap (λ (m : ℕ). take i out ++ shiftIn m c (drop i out)) e ∙ take-append-drop i out
 
--- the cells kept so far, and one more; at the end they are all
-module _ (n : ℕ) (out : List Cell) where
-  pub kept-more : (c : Cell) (w : List (Machine.Cell ℕ)) → n < length out
-      → map cellOf (take n out) ++ cellOf c ∷ w ≡ map cellOf (take (n + 1) (set out n c)) ++ w
-  kept-more c w h =
-      sym
-      (ap (λ (k : ℕ). map cellOf (take k (set out n c)) ++ w) (add-one n)
-      ∙ ap (λ (l : List Cell). map cellOf l ++ w) (take-suc-set out n c h)
-      ∙ ap (λ (l : List (Machine.Cell ℕ)). l ++ w) (map-append cellOf (take n out) (c ∷ []))
-      ∙ append-snoc (map cellOf (take n out)) (cellOf c) w)
+-- the cells kept so far, the first `n`, and those not yet looked at, from the place i on
+module _ (l i n held : ℕ) (zs : List Cell) where
+  pub removed-skip : i < held → held ≤ length zs → eqb l (getD zs i noCell .location .0) ≡ true
+      → heldIn n zs ++ withoutCells l (fromIn i held zs) ≡ heldIn n zs ++ withoutCells l (fromIn (i + 1) held zs)
+  removed-skip h whole e = ap (λ (w : List (Machine.Cell ℕ)). heldIn n zs ++ w) (taken-out i held zs h (omega arith) l e)
 
-  pub kept-all : (rest w : List (Machine.Cell ℕ)) → n ≤ length out → rest ≡ [] → map cellOf (take n out) ++ rest ≡ w → heldIn (length w) out ≡ w
-  kept-all rest w h over e =
-      let f : map cellOf (take n out) ≡ w = sym (append-nil (map cellOf (take n out))) ∙ ap (λ (l : List (Machine.Cell ℕ)). map cellOf (take n out) ++ l) (sym over) ∙ e in
-      let g : length w ≡ n = sym (ap length f) ∙ length-map (take n out) cellOf ∙ length-take-le n out h in
-      ap (λ (k : ℕ). heldIn k out) g ∙ f
+  pub removed-keep : n ≤ i → i < held → held ≤ length zs → eqb l (getD zs i noCell .location .0) ≡ false
+      → heldIn n zs ++ withoutCells l (fromIn i held zs)
+      ≡ heldIn (n + 1) (set zs n (getD zs i noCell)) ++ withoutCells l (fromIn (i + 1) held (set zs n (getD zs i noCell)))
+  removed-keep low h whole e =
+      let x = getD zs i noCell in
+      let w = withoutCells l (fromIn (i + 1) held zs) in
+      let same : drop (i + 1) (take held (set zs n x)) ≡ drop (i + 1) (take held zs) =
+      ap (drop (i + 1)) (take-set-lt held zs n x (omega arith)) ∙ drop-set-lt (i + 1) (take held zs) n x (omega arith) in
+      ap (λ (r : List (Machine.Cell ℕ)). heldIn n zs ++ r) (left-in i held zs h (omega arith) l e)
+      ∙ sym
+      (ap (λ (k : ℕ). heldIn k (set zs n x) ++ w) (add-one n)
+      ∙ ap (λ (r : List Cell). map cellOf r ++ w) (take-suc-set zs n x (omega arith))
+      ∙ ap (λ (r : List (Machine.Cell ℕ)). r ++ w) (map-append cellOf (take n zs) (x ∷ []))
+      ∙ append-snoc (heldIn n zs) (cellOf x) w)
+      ∙ ap (λ (r : List Cell). heldIn (n + 1) (set zs n x) ++ withoutCells l (map cellOf r)) (sym same)
+
+  pub removed-all : held ≤ i → n ≤ length zs → (w : List (Machine.Cell ℕ)) → heldIn n zs ++ withoutCells l (fromIn i held zs) ≡ w
+      → (n ≡ length w) × (heldIn n zs ≡ w)
+  removed-all over h w e =
+      let f : heldIn n zs ≡ w =
+      sym (append-nil (heldIn n zs))
+      ∙ ap (λ (r : List (Machine.Cell ℕ)). heldIn n zs ++ r) (sym (without-none i held zs l (from-none i held zs over)))
+      ∙ e in
+      (sym (length-take-le n zs h) ∙ sym (length-map (take n zs) cellOf) ∙ ap length f, f)

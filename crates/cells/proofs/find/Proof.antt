@@ -1,80 +1,31 @@
-use Rattle.cells.specs.Laws.{from-none, from-end, found-none, found-here, found-later}
-use mathlib.Core.Path.{sym, _∙_}
+use mathlib.Core.Path.{_≡_, refl, sym, _∙_}
 use lib.ListN.{length}
-use Prim.Native.Nat.{_-_, _<_, _≤_}
-use mathlib.Core.Path.{_≡_, refl}
-use native.Mathlib.Omega.{arith}
+use Rattle.cells.specs.Putting.{found-cell, found-none}
 use borrow.Author.Needs.{needs}
-use Rattle.gil.specs.Machine.{cellAt}
-use Rattle.cells.specs.Held.{heldIn, fromIn, foundIn}
 use Rattle.cells.proofs.find.Statement.{statement}
 use Rattle.cells.proofs.find.Tie as tie
+use Rattle.cells.proofs.find.Reads as reads
+use Rattle.cells.proofs.find.Lts as lts
+use Rattle.cells.proofs.here.Reads as here-reads
+use Rattle.cells.proofs.place_in.Reads as place-in-reads
 
-abbrev Inv-loop : tie.InvT-loop
-Inv-loop held l q cells i₀ i = foundIn (cellAt (l .0) q (heldIn held cells)) ≡ foundIn (cellAt (l .0) q (fromIn i held cells))
+-- src/lib.rt:188:9
+place-in-requires : tie.Need-place-in-requires
+place-in-requires c κs = search needs
 
-abbrev μ-loop : tie.MeasureT-loop
-μ-loop held l q cells i₀ i = 32 - i
+-- src/lib.rt:189:8
+here-requires : tie.Need-here-requires
+here-requires c κs = search needs
 
--- src/lib.rt:56:5
-loop-holds : tie.Need-loop-holds Inv-loop μ-loop
-loop-holds c = refl
+-- src/lib.rt:191:9
+returns : tie.Need-returns
+returns c = let whole : length (c .before .before .before .before .args .cells) ≡ 32 = search needs in
+    sym (found-cell _ (c .before .before .before .before .args .l .0) (c .before .before .before .before .args .q) (c .before .before .before .before .args .held) (c .before .before .before .before .args .cells) whole (c .before .before .before .place-in .result) (c .before .before .before .place-in .ensures) (sym (c .before .before .here .ensures) ∙ c .before .if1 .taken))
 
--- src/lib.rt:58:13
-returns : tie.Need-returns Inv-loop μ-loop
-returns c = sym (c .before .before .loop .inv ∙ found-none (c .before .before .loop .i) (c .before .before .before .args .held) (c .before .before .before .args .t1) _ _ (from-none _ _ _ (c .if1 .taken)))
-
--- src/lib.rt:60:17
-mul-c : tie.Need-mul-c Inv-loop μ-loop
-mul-c c = search needs
-
--- src/lib.rt:60:17
-array-copy-out-c : tie.Need-array-copy-out-c Inv-loop μ-loop
-array-copy-out-c c = search needs
-
--- src/lib.rt:61:12
-is-at-requires : tie.Need-is-at-requires Inv-loop μ-loop
-is-at-requires c κs = search needs
-
--- src/lib.rt:62:13
-returns-2 : tie.Need-returns-2 Inv-loop μ-loop
-returns-2 c = let len : length (c .before .before .before .before .before .before .args .t1) ≡ 32 = search needs in
-    let inside : c .before .before .before .before .before .loop .i < length (c .before .before .before .before .before .before .args .t1) = omega (arith, c .before .before .before .before .loop-test .taken) in
-    sym (c .before .before .before .before .before .loop .inv ∙ found-here _ _ _ (c .before .before .before .if1 .left) inside _ _ (sym (c .before .is-at .ensures) ∙ c .if2 .taken))
-
--- src/lib.rt:64:9
-add-i : tie.Need-add-i Inv-loop μ-loop
-add-i c = search needs
-
--- src/lib.rt:56:5
-loop-less : tie.Need-loop-less Inv-loop μ-loop
-loop-less c = search needs
-
--- src/lib.rt:56:5
-loop-again : tie.Need-loop-again Inv-loop μ-loop
-loop-again c = let len : length (c .before .before .before .before .before .before .args .t1) ≡ 32 = search needs in
-    let inside : c .before .before .before .before .before .loop .i < length (c .before .before .before .before .before .before .args .t1) = omega (arith, c .before .before .before .before .loop-test .taken) in
-    c .before .before .before .before .before .loop .inv ∙ found-later _ _ _ (c .before .before .before .if1 .left) inside _ _ (sym (c .before .is-at .ensures) ∙ c .if2 .left)
-
--- src/lib.rt:52:1
-returns-3 : tie.Need-returns-3 Inv-loop μ-loop
-returns-3 c = let len : length (c .before .before .args .t1) ≡ 32 = search needs in
-    let past : length (c .before .before .args .t1) ≤ c .before .loop .i = omega (arith, c .loop-test .left) in
-    sym (c .before .loop .inv ∙ found-none (c .before .loop .i) (c .before .before .args .held) (c .before .before .args .t1) _ _ (from-end (c .before .loop .i) (c .before .before .args .held) (c .before .before .args .t1) past))
+-- src/lib.rt:185:1
+returns-2 : tie.Need-returns-2
+returns-2 c = let whole : length (c .before .before .before .args .cells) ≡ 32 = search needs in
+    sym (found-none _ (c .before .before .before .args .l .0) (c .before .before .before .args .q) (c .before .before .before .args .held) (c .before .before .before .args .cells) whole (c .before .before .place-in .result) refl (c .before .before .place-in .ensures) (sym (c .before .here .ensures) ∙ c .if1 .left))
 
 pub find-spec : {M : Type 1} → statement M
-find-spec =
-    tie.close
-    (tie.spec
-    Inv-loop
-    μ-loop
-    loop-holds
-    returns
-    mul-c
-    array-copy-out-c
-    is-at-requires
-    returns-2
-    add-i
-    loop-less
-    loop-again
-    returns-3)
+find-spec = tie.close (tie.spec place-in-requires here-requires returns returns-2)
