@@ -1,5 +1,5 @@
 -- The cells in use, as the machine's cells: a value is its word. Assumes nothing.
-use Prim.Native.Nat.{ℕ, zero, suc, _+_, _-_, _<_}
+use Prim.Native.Nat.{ℕ, zero, suc, _+_, _-_, _<_, min}
 use mathlib.Core.Bool.{Bool, true, false, _&&_, _||_}
 use mathlib.Core.List.{List, [], _∷_, _++_, map}
 use mathlib.Core.Option.{Option, none, some}
@@ -57,6 +57,10 @@ FoundAt stops l q held cells f =
 -- whether that is the cell sought
 unfoldable pub hits : ℕ → ℕ → ℕ → Found → Bool
 hits l q held f = ltb (f .place) held && ltb (f .place) 32 && isAt l q (cellOf (f .cell))
+
+-- the last place that moves where the cell is put at the place found
+unfoldable pub lastOf : ℕ → ℕ → ℕ → Found → ℕ
+lastOf l q held f = elim (hits l q held f) [ true ↦ f .place | false ↦ min held 31 ]
 
 -- a cell pushed in front of the first `k`, the last of which drops out
 unfoldable pub shiftIn : {A : Type 0} → ℕ → A → List A → List A

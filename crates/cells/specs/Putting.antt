@@ -16,8 +16,8 @@ use Rattle.gil.specs.Machine as Machine
 use Rattle.gil.specs.Machine.{isAt, isBefore, cellAt, putCell}
 use Rattle.cells.specs.declared.Cell.{Cell}
 use Rattle.cells.specs.declared.Found.{Found}
-use Rattle.cells.specs.Held.{cellOf, noCell, heldIn, fromIn, foundIn, reaches, placeFrom, leads, FoundAt, hits, shiftIn, carriedIn}
-use Rattle.cells.specs.Laws.{at-later, place-here, place-later, found-here, leads-inside, hits-leads, carried-up, carried-all}
+use Rattle.cells.specs.Held.{cellOf, noCell, heldIn, fromIn, foundIn, reaches, placeFrom, leads, FoundAt, hits, lastOf, shiftIn, carriedIn}
+use Rattle.cells.specs.Laws.{at-later, place-here, place-later, found-here, leads-inside, hits-inside, hits-leads, carried-up, carried-all}
 use Rattle.cells.specs.Order.{Ordered, beyond-none, ordered-tail}
 
 abbrev cell : ℕ → ℕ → Value ℕ → Machine.Cell ℕ
@@ -235,7 +235,7 @@ module _ (l q i held : ℕ) (cells : List Cell) (whole : length cells ≡ 32) (f
         s .0,
       )
 
-  pub put-holds : (v : ℕ) → leads l q (fromIn i held cells) ≡ true
+  put-holds : (v : ℕ) → leads l q (fromIn i held cells) ≡ true
       → heldIn (length (putCell l q (term v) (heldIn held cells))) (carriedIn i i (record { location = record { 0 = l }; property = q; value = v }) cells)
       ≡ putCell l q (term v) (heldIn held cells)
   put-holds v t =
@@ -247,7 +247,7 @@ module _ (l q i held : ℕ) (cells : List Cell) (whole : length cells ≡ 32) (f
       ∙ map-set cellOf (take held cells) i c
       ∙ sym (s .1 (term v))
 
-  pub put-free : (v : ℕ) → leads l q (fromIn i held cells) ≡ false
+  put-free : (v : ℕ) → leads l q (fromIn i held cells) ≡ false
       → length (putCell l q (term v) (heldIn held cells)) ≤ 32
       → heldIn (length (putCell l q (term v) (heldIn held cells))) (carriedIn i held (record { location = record { 0 = l }; property = q; value = v }) cells)
       ≡ putCell l q (term v) (heldIn held cells)
@@ -260,3 +260,45 @@ module _ (l q i held : ℕ) (cells : List Cell) (whole : length cells ≡ 32) (f
       ∙ map-append cellOf (take i (take held cells)) (c ∷ drop i (take held cells))
       ∙ ap₂ (λ (a b : List (Machine.Cell ℕ)). a ++ cellOf c ∷ b) (map-take cellOf i (take held cells)) (map-drop cellOf i (take held cells))
       ∙ sym (s .1 (term v))
+
+-- what is put where a search that stops ended
+module _ (l q held : ℕ) (f : Found) where
+  last-by : (b : Bool) → hits l q held f ≡ b → lastOf l q held f ≡ elim b [ true ↦ f .place | false ↦ min held 31 ]
+  unfolding lastOf
+  last-by b e = ap (λ (t : Bool). elim t [ true ↦ f .place | false ↦ min held 31 ]) e
+
+  pub last-here : hits l q held f ≡ true → lastOf l q held f ≡ f .place
+  last-here = last-by true
+
+  pub last-other : hits l q held f ≡ false → lastOf l q held f ≡ min held 31
+  last-other = last-by false
+
+  pub last-inside : lastOf l q held f < 32
+  last-inside = by (hits l q held f) refl
+    where
+      by : (b : Bool) → hits l q held f ≡ b → lastOf l q held f < 32
+      by true e = omega (arith, last-here e, hits-inside l q held f e)
+      by false e = omega (arith, last-other e)
+
+  pub put-last : (cells : List Cell) (v : ℕ) → length cells ≡ 32 → FoundAt true l q held cells f → held ≤ 32
+      → length (putCell l q (term v) (heldIn held cells)) ≤ 32
+      → heldIn (length (putCell l q (term v) (heldIn held cells))) (carriedIn (f .place) (lastOf l q held f) (record { location = record { 0 = l }; property = q; value = v }) cells)
+      ≡ putCell l q (term v) (heldIn held cells)
+  put-last cells v whole is few room = by (hits l q held f) refl
+    where
+      c : Cell
+      c = record { location = record { 0 = l }; property = q; value = v }
+
+      new : List (Machine.Cell ℕ)
+      new = putCell l q (term v) (heldIn held cells)
+
+      by : (b : Bool) → hits l q held f ≡ b → heldIn (length new) (carriedIn (f .place) (lastOf l q held f) c cells) ≡ new
+      by true e =
+          ap (λ (n : ℕ). heldIn (length new) (carriedIn (f .place) n c cells)) (last-here e)
+          ∙ put-holds l q (f .place) held cells whole few (is .0) v (hits-leads true l q held cells whole f is e)
+      by false e =
+          let t = hits-leads true l q held cells whole f is e in
+          let g : held + 1 ≡ length new = grown-free l q (f .place) held cells whole few (is .0) (term v) t in
+          let n : lastOf l q held f ≡ held = omega (arith, last-other e, g, room) in
+          ap (λ (k : ℕ). heldIn (length new) (carriedIn (f .place) k c cells)) n
+          ∙ put-free l q (f .place) held cells whole few (is .0) v t room

@@ -9,7 +9,7 @@ ghost use Prim.Native.Nat.{_<_, _≤_, min};
 ghost use lib.ListN.{length};
 ghost use Rattle.gil.specs.Machine.{isAt, isBefore, cellAt, putCell, withoutCells};
 ghost use Rattle.gil.specs.Values.{term};
-ghost use Rattle.cells.specs.Held.{cellOf, heldIn, foundIn, reaches, FoundAt, hits, carriedIn};
+ghost use Rattle.cells.specs.Held.{cellOf, heldIn, foundIn, reaches, FoundAt, hits, lastOf, carriedIn};
 use values::Location;
 
 pub const CELLS: usize = 32;
@@ -216,6 +216,16 @@ pub fn grown(cells: [Cell; CELLS], held: usize, l: Location, q: u32) -> usize
     grown_at(place_of(cells, held, l, q), held, l, q)
 }
 
+// The last cell that moves where the cell is put: none but its own, or all those in use behind its place
+fn last(f: Found, held: usize, l: Location, q: u32) -> usize
+    ensures { λ r. ⌜ r ≡ lastOf (l .0) q held f ⌝ }
+{
+    if here(f, held, l, q) {
+        return f.place;
+    }
+    if held < CELLS { held } else { 31 }
+}
+
 // "`mutate` writes the cell, adding it if absent": the cells after it is put at its place, where there is room
 pub fn put_at(
     cells: [Cell; CELLS],
@@ -232,13 +242,7 @@ pub fn put_at(
         property: q,
         value: v,
     };
-    if here(f, held, l, q) {
-        return carry(cells, f.place, f.place, cell);
-    }
-    if held < CELLS {
-        return carry(cells, f.place, held, cell);
-    }
-    cells
+    carry(cells, f.place, last(f, held, l, q), cell)
 }
 
 pub fn put(cells: [Cell; CELLS], held: usize, l: Location, q: u32, v: u64) -> [Cell; CELLS]
