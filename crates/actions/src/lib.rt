@@ -85,12 +85,13 @@ fn mutate_at(
         return remember(Next::Error(2), cells, held);
     }
     let l = Location(values::word(v));
-    let n = cells::grown(cells, held, l, m.other);
+    let at = cells::place_of(cells, held, l, m.other);
+    let n = cells::grown_at(at, held, l, m.other);
     if CELLS < n {
         return remember(Next::Error(7), cells, held);
     }
     let next = commands::assign(c, m.target, values::truth(true), store);
-    remember(next, cells::put(cells, held, l, m.other, u), n)
+    remember(next, cells::put_at(cells, held, at, l, m.other, u), n)
 }
 
 // `dispose` of the location v

@@ -1,13 +1,16 @@
 -- The cells in use, as the machine's cells: a value is its word. Assumes nothing.
-use Prim.Native.Nat.{ℕ, zero, suc, _+_, _-_}
+use Prim.Native.Nat.{ℕ, zero, suc, _+_, _-_, _<_, min}
 use mathlib.Core.Bool.{Bool, true, false, _&&_, _||_}
 use mathlib.Core.List.{List, [], _∷_, _++_, map}
 use mathlib.Core.Option.{Option, none, some}
-use lib.ListN.{take, drop}
+use mathlib.Core.Path.{_≡_}
+use lib.Dec.{ltb}
+use lib.ListN.{length, getD, take, drop}
 use Rattle.gil.specs.Values.{Value, const, term}
 use Rattle.gil.specs.Machine as Machine
 use Rattle.gil.specs.Machine.{isAt, isBefore}
 use Rattle.cells.specs.declared.Cell.{Cell}
+use Rattle.cells.specs.declared.Found.{Found}
 
 -- what an array of cells begins with
 abbrev pub noCell : Cell
@@ -45,6 +48,19 @@ placeFrom stops l q k (c ∷ cs) = elim (reaches stops l q c) [ true ↦ k | fal
 unfoldable pub leads : ℕ → ℕ → List (Machine.Cell ℕ) → Bool
 leads l q [] = false
 leads l q (c ∷ cs) = isAt l q c
+
+-- what a search answers: where it ended, and, where a cell is in use there, that cell
+abbrev pub FoundAt : Bool → ℕ → ℕ → ℕ → List Cell → Found → Type 0
+FoundAt stops l q held cells f =
+    (f .place ≡ placeFrom stops l q 0 (heldIn held cells)) × (f .place < held → f .place < length cells → f .cell ≡ getD cells (f .place) noCell)
+
+-- whether that is the cell sought
+unfoldable pub hits : ℕ → ℕ → ℕ → Found → Bool
+hits l q held f = ltb (f .place) held && ltb (f .place) 32 && isAt l q (cellOf (f .cell))
+
+-- the last place that moves where the cell is put at the place found
+unfoldable pub lastOf : ℕ → ℕ → ℕ → Found → ℕ
+lastOf l q held f = elim (hits l q held f) [ true ↦ f .place | false ↦ min held 31 ]
 
 -- a cell pushed in front of the first `k`, the last of which drops out
 unfoldable pub shiftIn : {A : Type 0} → ℕ → A → List A → List A

@@ -1,6 +1,6 @@
 -- Laws of the cells in use that the loops go by. Assumes nothing.
 use Prim.Native.Nat.{ℕ, suc, _+_, _-_, _<_, _≤_}
-use mathlib.Core.Bool.{Bool, true, false}
+use mathlib.Core.Bool.{Bool, true, false, _&&_}
 use mathlib.Core.Path.{_≡_, refl, sym, _∙_, ap, ap₂}
 use mathlib.Core.List.{List, [], _∷_, _++_, map, map-append, append-nil}
 use mathlib.Core.Option.{some}
@@ -10,11 +10,12 @@ use lib.ListN.{length, getD, take, drop, set, length-take, drop-of-length-le, ta
 use lib.Dec.{eqb, ltb}
 use lib.Seq.{drop-cons, getD-take, take-suc-set, take-set-lt, drop-set-lt, append-snoc, length-take-le}
 use borrow.Author.Tests.{ltb-true, ltb-false}
-use Rattle.gil.specs.Theory.Tests.{no-false}
+use Rattle.gil.specs.Theory.Tests.{no-false, and-left, and-right}
 use Rattle.gil.specs.Machine as Machine
 use Rattle.gil.specs.Machine.{isAt, cellAt, withoutCells}
 use Rattle.cells.specs.declared.Cell.{Cell}
-use Rattle.cells.specs.Held.{cellOf, noCell, heldIn, fromIn, foundIn, reaches, placeFrom, leads, shiftIn, carriedIn}
+use Rattle.cells.specs.declared.Found.{Found}
+use Rattle.cells.specs.Held.{cellOf, noCell, heldIn, fromIn, foundIn, reaches, placeFrom, leads, FoundAt, hits, shiftIn, carriedIn}
 
 -- those in use from a place on: none past the end, else the one that stands there and those behind it
 module _ {A : Type 0} (i n : ℕ) (l : List A) where
@@ -114,6 +115,29 @@ leads-inside l q i n cells t = (within (ltb i n) refl, there (ltb i (length cell
     there : (b : Bool) → ltb i (length cells) ≡ b → i < length cells
     there true e = ltb-true i (length cells) e
     there false e = no-false t (leads-none i n cells l q (from-end i n cells (ltb-false i (length cells) e)))
+
+pub hits-inside : (l q held : ℕ) (f : Found) → hits l q held f ≡ true → f .place < 32
+unfolding hits
+hits-inside l q held f e =
+    ltb-true (f .place) 32
+    (and-right (ltb (f .place) held) (ltb (f .place) 32) (and-left (ltb (f .place) held && ltb (f .place) 32) (isAt l q (cellOf (f .cell))) e))
+
+-- what was found is what stands there
+module _ (s : Bool) (l q held : ℕ) (cells : List Cell) (whole : length cells ≡ 32) (f : Found) (is : FoundAt s l q held cells f) where
+  hits-by : (a b : Bool) → ltb (f .place) held ≡ a → ltb (f .place) 32 ≡ b
+      → a && b && isAt l q (cellOf (f .cell)) ≡ leads l q (fromIn (f .place) held cells)
+  hits-by true true d e =
+      let h : f .place < held = ltb-true (f .place) held d in
+      let k : f .place < length cells = omega (arith, ltb-true (f .place) 32 e, whole) in
+      ap (λ (c : Cell). isAt l q (cellOf c)) (is .1 h k) ∙ sym (leads-here (f .place) held cells h k l q)
+  hits-by true false d e =
+      let k : length cells ≤ f .place = omega (arith, ltb-false (f .place) 32 e, whole) in
+      sym (leads-none (f .place) held cells l q (from-end (f .place) held cells k))
+  hits-by false b d e = sym (leads-none (f .place) held cells l q (from-none (f .place) held cells (ltb-false (f .place) held d)))
+
+  pub hits-leads : {b : Bool} → hits l q held f ≡ b → leads l q (fromIn (f .place) held cells) ≡ b
+  unfolding hits
+  hits-leads e = sym (hits-by (ltb (f .place) held) (ltb (f .place) 32) refl refl) ∙ e
 
 -- a cell carried upward by one
 module _ (last : ℕ) (i : ℕ) (c : Cell) (out : List Cell) where

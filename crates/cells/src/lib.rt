@@ -3,12 +3,13 @@
 // and give it back. What is found, put in and taken out is Machine's `cellAt`, `putCell` and `withoutCells` over the cells in use
 // (specs/Held.antt); nothing here needs them to be in order, and specs/Order.antt says that they stay so.
 ghost use mathlib.Core.Path.{_≡_};
-ghost use mathlib.Core.Bool.{true, false};
+ghost use mathlib.Core.Bool.{true};
+ghost use mathlib.Core.List.{List};
 ghost use Prim.Native.Nat.{_<_, _≤_, min};
 ghost use lib.ListN.{length};
 ghost use Rattle.gil.specs.Machine.{isAt, isBefore, cellAt, putCell, withoutCells};
 ghost use Rattle.gil.specs.Values.{term};
-ghost use Rattle.cells.specs.Held.{cellOf, heldIn, fromIn, foundIn, reaches, placeFrom, leads, carriedIn};
+ghost use Rattle.cells.specs.Held.{cellOf, heldIn, foundIn, reaches, FoundAt, hits, lastOf, carriedIn};
 use values::Location;
 
 pub const CELLS: usize = 32;
@@ -62,25 +63,36 @@ fn ends(c: Cell, l: Location, q: u32, stops: bool) -> bool
     false
 }
 
+// Where a search ended, and the cell that stands there, if one is in use there
+pub struct Found {
+    pub place: usize,
+    pub cell: Cell,
+}
+
 // The first of the cells in use at which the search ends
-fn search(cells: &[Cell], held: usize, l: Location, q: u32, stops: bool) -> usize
+fn search(cells: &[Cell], held: usize, l: Location, q: u32, stops: bool) -> Found
     requires { ⌜ held ≤ length (now cells) ⌝ }
-    ensures { λ r. ⌜ r ≡ placeFrom stops (l .0) q 0 (heldIn held (now (cells .entry))) ⌝ }
+    ensures { λ r. ⌜ FoundAt stops (l .0) q held (now (cells .entry)) r ⌝ }
 {
+    let mut c = Cell {
+        location: l,
+        property: q,
+        value: 0,
+    };
     let mut i: usize = 0;
     while i < held {
-        let c = cells[i];
+        c = cells[i];
         if ends(c, l, q, stops) {
             break;
         }
         i += 1;
     }
-    i
+    Found { place: i, cell: c }
 }
 
-fn place(cells: [Cell; CELLS], held: usize, l: Location, q: u32, stops: bool) -> usize
+fn place(cells: [Cell; CELLS], held: usize, l: Location, q: u32, stops: bool) -> Found
     requires { ⌜ held ≤ 32 ⌝ }
-    ensures { λ r. ⌜ r ≡ placeFrom stops (l .0) q 0 (heldIn held cells) ⌝ }
+    ensures { λ r. ⌜ FoundAt stops (l .0) q held cells r ⌝ }
 {
     search(&cells, held, l, q, stops)
 }
@@ -150,50 +162,49 @@ fn used(held: usize) -> usize
     if held < CELLS { held } else { CELLS }
 }
 
-fn place_in(cells: [Cell; CELLS], held: usize, l: Location, q: u32, stops: bool) -> usize
-    ensures { λ r. ⌜ r ≡ placeFrom stops (l .0) q 0 (heldIn held cells) ⌝ }
+fn place_in(cells: [Cell; CELLS], held: usize, l: Location, q: u32, stops: bool) -> Found
+    ensures { λ r. ⌜ FoundAt stops (l .0) q held cells r ⌝ }
 {
     place(cells, used(held), l, q, stops)
 }
 
-// Whether the cell sought is in use at a place
-fn holds(cells: [Cell; CELLS], held: usize, i: usize, l: Location, q: u32) -> bool
-    ensures { λ r. ⌜ r ≡ leads (l .0) q (fromIn i held cells) ⌝ }
+// Whether the cell sought was found
+fn here(f: Found, held: usize, l: Location, q: u32) -> bool
+    ensures { λ r. ⌜ r ≡ hits (l .0) q held f ⌝ }
 {
-    if held <= i {
-        return false;
+    if f.place < held {
+        if f.place < CELLS {
+            let c = f.cell;
+            return is_at(c, l, q);
+        }
     }
-    if CELLS <= i {
-        return false;
-    }
-    let c = cells[i];
-    is_at(c, l, q)
+    false
 }
 
 // The value of the cell, or 0
 pub fn find(cells: [Cell; CELLS], held: usize, l: Location, q: u32) -> u64
     ensures { λ r. ⌜ r ≡ foundIn (cellAt (l .0) q (heldIn held cells)) ⌝ }
 {
-    let i = place_in(cells, held, l, q, false);
-    if holds(cells, held, i, l, q) {
-        let c = cells[i];
+    let f = place_in(cells, held, l, q, false);
+    if here(f, held, l, q) {
+        let c = f.cell;
         return c.value;
     }
     0
 }
 
 // Where a cell is put: its own place, or that of the first cell beyond it
-pub fn place_of(cells: [Cell; CELLS], held: usize, l: Location, q: u32) -> usize
-    ensures { λ r. ⌜ r ≡ placeFrom true (l .0) q 0 (heldIn held cells) ⌝ }
+pub fn place_of(cells: [Cell; CELLS], held: usize, l: Location, q: u32) -> Found
+    ensures { λ r. ⌜ FoundAt true (l .0) q held cells r ⌝ }
 {
     place_in(cells, held, l, q, true)
 }
 
 // How many cells are in use once the cell is put at its place
-pub fn grown_at(cells: [Cell; CELLS], held: usize, at: usize, l: Location, q: u32) -> usize
-    ensures { λ r. ⌜ (at ≡ placeFrom true (l .0) q 0 (heldIn held cells) → held ≤ 32 → r ≡ length (putCell (l .0) q (term 0) (heldIn held cells))) ⌝ }
+pub fn grown_at(f: Found, held: usize, l: Location, q: u32) -> usize
+    ensures { λ r. ⌜ ((cells : List Cell) → length cells ≡ 32 → FoundAt true (l .0) q held cells f → held ≤ 32 → r ≡ length (putCell (l .0) q (term 0) (heldIn held cells))) ⌝ }
 {
-    if holds(cells, held, at, l, q) {
+    if here(f, held, l, q) {
         return held;
     }
     if held < CELLS { held + 1 } else { CELLS + 1 }
@@ -202,32 +213,36 @@ pub fn grown_at(cells: [Cell; CELLS], held: usize, at: usize, l: Location, q: u3
 pub fn grown(cells: [Cell; CELLS], held: usize, l: Location, q: u32) -> usize
     ensures { λ r. ⌜ (held ≤ 32 → r ≡ length (putCell (l .0) q (term 0) (heldIn held cells))) ⌝ }
 {
-    grown_at(cells, held, place_of(cells, held, l, q), l, q)
+    grown_at(place_of(cells, held, l, q), held, l, q)
+}
+
+// The last cell that moves where the cell is put: none but its own, or all those in use behind its place
+fn last(f: Found, held: usize, l: Location, q: u32) -> usize
+    ensures { λ r. ⌜ r ≡ lastOf (l .0) q held f ⌝ }
+{
+    if here(f, held, l, q) {
+        return f.place;
+    }
+    if held < CELLS { held } else { 31 }
 }
 
 // "`mutate` writes the cell, adding it if absent": the cells after it is put at its place, where there is room
 pub fn put_at(
     cells: [Cell; CELLS],
     held: usize,
-    at: usize,
+    f: Found,
     l: Location,
     q: u32,
     v: u64,
 ) -> [Cell; CELLS]
-    ensures { λ r. ⌜ (at ≡ placeFrom true (l .0) q 0 (heldIn held cells) → held ≤ 32 → length (putCell (l .0) q (term v) (heldIn held cells)) ≤ 32 → heldIn (length (putCell (l .0) q (term v) (heldIn held cells))) r ≡ putCell (l .0) q (term v) (heldIn held cells)) ⌝ }
+    ensures { λ r. ⌜ (FoundAt true (l .0) q held cells f → held ≤ 32 → length (putCell (l .0) q (term v) (heldIn held cells)) ≤ 32 → heldIn (length (putCell (l .0) q (term v) (heldIn held cells))) r ≡ putCell (l .0) q (term v) (heldIn held cells)) ⌝ }
 {
     let cell = Cell {
         location: l,
         property: q,
         value: v,
     };
-    if holds(cells, held, at, l, q) {
-        return carry(cells, at, at, cell);
-    }
-    if held < CELLS {
-        return carry(cells, at, held, cell);
-    }
-    cells
+    carry(cells, f.place, last(f, held, l, q), cell)
 }
 
 pub fn put(cells: [Cell; CELLS], held: usize, l: Location, q: u32, v: u64) -> [Cell; CELLS]

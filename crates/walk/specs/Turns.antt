@@ -17,6 +17,7 @@ use Rattle.commands.specs.declared.Next.{Next}
 use Rattle.rows.specs.declared.Head.{Head}
 use Rattle.rows.specs.Stored.{wordsFrom, noCell, cellIn, putWords, withConditions, withVariables, withCells, withRow, withRowAt}
 use Rattle.commands.specs.declared.Next.the-variants.{On, Returned, Failed, Vanished, Error, Fork}
+use Rattle.commands.specs.Stepped.{startStore}
 use Rattle.path.specs.declared.Stop.{Stop}
 use Rattle.path.specs.Followed.{Spot, spot, Stopped, stopped, endedIn, headIn}
 use Rattle.walk.specs.declared.Branch.{Branch}
@@ -115,63 +116,65 @@ module _ (code inputs : List ℕ) (budget n branches : ℕ) (conditions : List �
       forked k m z = rw (z, ← e, h, x)
 
 -- the same on the code's own words
-module _ (code : List ℕ) (budgets : Budgets) (from : Branch) (rows : ℕ) (table pool : List ℕ) (count : ℕ) (f : Stop) {store' pool' : List ℕ} {count' : ℕ}
+module _ (code : List ℕ) (budgets : Budgets) (from : Branch) (conditions store : List ℕ) (cells : List Cell) (rows : ℕ) (table pool : List ℕ)
+    (count : ℕ) (f : Stop) {store' pool' : List ℕ} {count' : ℕ}
     (e : stopped f store' pool' count'
-    ≡ onwards code (replicate 16 0) (budgets .steps) (from .steps) (spot (from .control) (from .store) (heldIn (from .held) (from .cells)) pool count))
+    ≡ onwards code (replicate 16 0) (budgets .steps) (from .steps) (spot (from .control) store (heldIn (from .held) cells) pool count))
     {full : Bool} (g : full ≡ fullIn (f .cut) count') where
-  pub pool-full : full ≡ true → reached 10 rows table pool' count' ≡ walksIn code budgets from rows table pool count
+  pub pool-full : full ≡ true → reached 10 rows table pool' count' ≡ walksIn code budgets from conditions store cells rows table pool count
   unfolding walksIn
   pool-full h = overfull _ _ _ _ _ _ _ _ _ e _ (sym g ∙ h)
 
   module _ (h : full ≡ false) where
     pub a-row : {r rows' : ℕ} {table' : List ℕ} → NoFork (f .next)
         → finished r rows' table'
-        ≡ finishIn code (from .branches) (from .conditions) rows table (f .cut) (f .next) (f .control) (f .steps) store' (heldIn (f .held) (f .cells))
-        → reached r rows' table' pool' count' ≡ walksIn code budgets from rows table pool count
+        ≡ finishIn code (from .branches) conditions rows table (f .cut) (f .next) (f .control) (f .steps) store' (heldIn (f .held) (f .cells))
+        → reached r rows' table' pool' count' ≡ walksIn code budgets from conditions store cells rows table pool count
     unfolding walksIn rowIn
     a-row x w = rw (← plain-row _ _ _ _ _ _ _ _ _ e (sym g ∙ h) _ x, ← w)
 
     module _ {t : ℕ} {a b : Control} (x : f .next ≡ Fork t a b) where
       pub no-branch-left : {r rows' : ℕ} {table' : List ℕ} → budgets .branches ≤ from .branches
           → finished r rows' table'
-          ≡ finishIn code (from .branches) (from .conditions) rows table (f .cut) (f .next) (f .control) (f .steps) store' (heldIn (f .held) (f .cells))
-          → reached r rows' table' pool' count' ≡ walksIn code budgets from rows table pool count
+          ≡ finishIn code (from .branches) conditions rows table (f .cut) (f .next) (f .control) (f .steps) store' (heldIn (f .held) (f .cells))
+          → reached r rows' table' pool' count' ≡ walksIn code budgets from conditions store cells rows table pool count
       unfolding walksIn rowIn
       no-branch-left z w =
           let none : budgets .branches - from .branches ≡ 0 = omega arith in
           rw (← cut-row _ _ _ _ _ _ _ _ _ e (sym g ∙ h) x _ none, ← w)
 
       module _ (left : from .branches < budgets .branches) {c : ℕ} {cs : List ℕ} {p : Branch} {r rows₁ : ℕ} {table₁ pool₁ : List ℕ} {count₁ : ℕ}
-          (ec : c ≡ conditionOn t 1) (es : cs ≡ conditionsWith (from .branches) c (from .conditions))
-          (ep : p ≡ branchIn f a (from .branches + 1) cs store')
-          (er : reached r rows₁ table₁ pool₁ count₁ ≡ walksIn code budgets p rows table pool' count') where
+          (ec : c ≡ conditionOn t 1) (es : cs ≡ conditionsWith (from .branches) c conditions)
+          (ep : p ≡ branchIn a (f .steps) (from .branches + 1) (f .held))
+          (er : reached r rows₁ table₁ pool₁ count₁ ≡ walksIn code budgets p cs store' (f .cells) rows table pool' count') where
         split : afterFirst (reached r rows₁ table₁ pool₁ count₁)
             (λ o. walkIn code (replicate 16 0) (budgets .steps) (budgets .branches - (from .branches + 1)) ((f .steps + 1) % 4294967296) (from .branches + 1)
-            (conditionsWith (from .branches) (conditionOn t 0) (from .conditions)) (spot b store' (heldIn (f .held) (f .cells)) (o .pool) (o .count)) (o .rows) (o .table))
-            ≡ walksIn code budgets from rows table pool count
+            (conditionsWith (from .branches) (conditionOn t 0) conditions) (spot b store' (heldIn (f .held) (f .cells)) (o .pool) (o .count)) (o .rows) (o .table))
+            ≡ walksIn code budgets from conditions store cells rows table pool count
         unfolding walksIn forkBy branchIn
         split = rw (er, ep, es, ec) (forked _ _ _ _ _ _ _ _ _ e (sym g ∙ h) x _ _ (omega arith))
 
-        pub first-refused : (r ≡ 0 → ⊥) → reached r rows₁ table₁ pool₁ count₁ ≡ walksIn code budgets from rows table pool count
+        pub first-refused : (r ≡ 0 → ⊥) → reached r rows₁ table₁ pool₁ count₁ ≡ walksIn code budgets from conditions store cells rows table pool count
         unfolding afterFirst
         first-refused z = simp (ne-eqb r 0 z) at split
 
-        pub both : {o : Reached} {d : ℕ} {ds : List ℕ} {q : Branch} → r ≡ 0 → d ≡ conditionOn t 0 → ds ≡ conditionsWith (from .branches) d (from .conditions)
-            → q ≡ branchIn f b (from .branches + 1) ds store'
-            → o ≡ walksIn code budgets q rows₁ table₁ pool₁ count₁
-            → o ≡ walksIn code budgets from rows table pool count
+        pub both : {o : Reached} {d : ℕ} {ds : List ℕ} {q : Branch} → r ≡ 0 → d ≡ conditionOn t 0 → ds ≡ conditionsWith (from .branches) d conditions
+            → q ≡ branchIn b (f .steps) (from .branches + 1) (f .held)
+            → o ≡ walksIn code budgets q ds store' (f .cells) rows₁ table₁ pool₁ count₁
+            → o ≡ walksIn code budgets from conditions store cells rows table pool count
         unfolding afterFirst walksIn branchIn
         both z ed eds eq eo = (rw (eq, eds, ed) at eo) ∙ (simp (eq-eqb r 0 z) at split)
 
 -- where every path begins, and the two ends of the exploration
-pub from-begin : (code : List ℕ) (budgets : Budgets) {b : Branch} (table pool : List ℕ) {t u : List ℕ} → Begins code b
+pub from-begin : (code : List ℕ) (budgets : Budgets) {b : Branch} {store : List ℕ} (cells : List Cell) (table pool : List ℕ) {t u : List ℕ} → Begins code b
+    → store ≡ startStore
     → t ≡ replicate (length table) 0 → u ≡ replicate (length pool) 0
-    → {r : Reached} → r ≡ walksIn code budgets b 0 t u 0
+    → {r : Reached} → r ≡ walksIn code budgets b (replicate 16 0) store cells 0 t u 0
     → exploredBy (length table) (length pool) r ≡ exploreIn code (budgets .steps) (budgets .branches) table pool
 unfolding walksIn exploreIn
-from-begin code budgets {b} table pool h et eu {r} e =
+from-begin code budgets {b} cells table pool h es et eu {r} e =
     ap (exploredBy (length table) (length pool))
-    (e ∙ rw (h .control, h .steps, h .branches, h .held, h .conditions, h .store, et, eu, sub-zero))
+    (e ∙ rw (h .control, h .steps, h .branches, h .held, es, et, eu, sub-zero))
 
 pub ends-refused : (a b : ℕ) (r : Reached) {t u : List ℕ} → (r .refusal ≡ 0 → ⊥) → t ≡ replicate a 0 → u ≡ replicate b 0
     → explored (r .refusal) t u ≡ exploredBy a b r

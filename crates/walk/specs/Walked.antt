@@ -112,22 +112,13 @@ module _ (code inputs : List ℕ) (budget : ℕ) where
       settleBy (forkBy (walkIn k) branches conditions rows table f) (rowIn code branches conditions rows table f) rows table f
 
 -- a branch that waits
-unfoldable pub branchIn : Stop → Control → ℕ → List ℕ → List ℕ → Branch
-branchIn f to branches conditions store =
-    record {
-      control = to;
-      steps = (f .steps + 1) % 4294967296;
-      branches = branches;
-      held = f .held;
-      conditions = conditions;
-      store = store;
-      cells = f .cells;
-    }
+unfoldable pub branchIn : Control → ℕ → ℕ → ℕ → Branch
+branchIn c steps branches held = record { control = c; steps = (steps + 1) % 4294967296; branches = branches; held = held }
 
-unfoldable pub walksIn : List ℕ → Budgets → Branch → ℕ → List ℕ → List ℕ → ℕ → Reached
-walksIn code budgets b rows table pool count =
-    walkIn code (replicate 16 0) (budgets .steps) (budgets .branches - b .branches) (b .steps) (b .branches) (b .conditions)
-    (spot (b .control) (b .store) (heldIn (b .held) (b .cells)) pool count) rows table
+unfoldable pub walksIn : List ℕ → Budgets → Branch → List ℕ → List ℕ → List Cell → ℕ → List ℕ → List ℕ → ℕ → Reached
+walksIn code budgets b conditions store cells rows table pool count =
+    walkIn code (replicate 16 0) (budgets .steps) (budgets .branches - b .branches) (b .steps) (b .branches) conditions
+    (spot (b .control) store (heldIn (b .held) cells) pool count) rows table
 
 -- the branch where every path begins
 pub record Begins (code : List ℕ) (b : Branch) : Type 0 where
@@ -135,8 +126,6 @@ pub record Begins (code : List ℕ) (b : Branch) : Type 0 where
   pub steps : b .steps ≡ 0
   pub branches : b .branches ≡ 0
   pub held : b .held ≡ 0
-  pub conditions : b .conditions ≡ replicate 16 0
-  pub store : b .store ≡ startStore
 
 -- what `explore` returns and leaves
 pub record Explored : Type 0 where

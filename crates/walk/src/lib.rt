@@ -27,15 +27,13 @@ pub struct Budgets {
     pub branches: u32,
 }
 
-// A branch that waits: where it stands, the steps and conditions so far, its store and its cells
+// A branch that waits: where it stands, the steps and branches so far, and how many cells are in use. Its conditions, its store and its cells
+// go beside it, so that each is copied once.
 pub struct Branch {
     pub control: Control,
     pub steps: u32,
     pub branches: u32,
     pub held: usize,
-    pub conditions: [u32; 16],
-    pub store: [u64; STORE_WORDS],
-    pub cells: [Cell; CELLS],
 }
 
 // The row of a path that stopped so, written into its own part of the table: 0, or 9 where it would be the 65th
@@ -89,24 +87,14 @@ fn with_condition(conditions: [u32; 16], at: u32, w: u32) -> [u32; 16]
     out
 }
 
-fn waiting(
-    f: Stop,
-    to: Control,
-    branches: u32,
-    conditions: [u32; 16],
-    store: [u64; STORE_WORDS],
-) -> Branch
-    ensures { λ r. ⌜ r ≡ branchIn f to branches conditions store ⌝ }
+fn waiting(control: Control, steps: u32, branches: u32, held: usize) -> Branch
+    ensures { λ r. ⌜ r ≡ branchIn control steps branches held ⌝ }
 {
-    let cells = f.cells;
     Branch {
-        control: to,
-        steps: std::num::wrapping_add_u32(f.steps, 1),
+        control,
+        steps: std::num::wrapping_add_u32(steps, 1),
         branches,
-        held: f.held,
-        conditions,
-        store,
-        cells,
+        held,
     }
 }
 
@@ -115,17 +103,18 @@ fn walk(
     code: &[u32; CODE_WORDS],
     budgets: Budgets,
     from: Branch,
+    conditions: [u32; 16],
+    begun: [u64; STORE_WORDS],
+    cells: [Cell; CELLS],
     table: &mut [u8],
     rows: &mut u32,
     pool: &mut [u8],
     count: &mut u32,
 ) -> u32
     requires { ⌜ from .held ≤ 32 ⌝ }
-    ensures { λ r. ⌜ reached r (now (rows .exit)) (now (table .exit)) (now (pool .exit)) (now (count .exit)) ≡ walksIn (now (code .entry)) budgets from (now (rows .entry)) (now (table .entry)) (now (pool .entry)) (now (count .entry)) ⌝ }
+    ensures { λ r. ⌜ reached r (now (rows .exit)) (now (table .exit)) (now (pool .exit)) (now (count .exit)) ≡ walksIn (now (code .entry)) budgets from conditions begun cells (now (rows .entry)) (now (table .entry)) (now (pool .entry)) (now (count .entry)) ⌝ }
 {
-    let conditions = from.conditions;
-    let cells = from.cells;
-    let mut store = from.store;
+    let mut store = begun;
     let f = path::follow(
         code,
         from.control,
@@ -150,11 +139,15 @@ fn walk(
         return finish(code, f, from.branches, &conditions, &store, table, rows);
     }
     let deeper = from.branches + 1;
+    let left = f.cells;
     let holds = with_condition(conditions, from.branches, condition(t, 1));
     let first = walk(
         code,
         budgets,
-        waiting(f, a, deeper, holds, store),
+        waiting(a, f.steps, deeper, f.held),
+        holds,
+        store,
+        left,
         table,
         rows,
         pool,
@@ -167,7 +160,10 @@ fn walk(
     walk(
         code,
         budgets,
-        waiting(f, b, deeper, fails, store),
+        waiting(b, f.steps, deeper, f.held),
+        fails,
+        store,
+        left,
         table,
         rows,
         pool,
@@ -180,16 +176,11 @@ fn begin(code: &[u32; CODE_WORDS]) -> Branch
     ensures { λ r. ⌜ Begins (now (code .entry)) r ⌝ }
 {
     let control = commands::start(code);
-    let store = commands::start_store();
-    let cells = cells::none();
     Branch {
         control,
         steps: 0,
         branches: 0,
         held: 0,
-        conditions: [0; 16],
-        store,
-        cells,
     }
 }
 
@@ -205,6 +196,9 @@ pub fn explore(code: &[u32; CODE_WORDS], budgets: Budgets, table: &mut [u8], poo
         code,
         budgets,
         begin(code),
+        [0; 16],
+        commands::start_store(),
+        cells::none(),
         table,
         &mut rows,
         pool,

@@ -51,9 +51,12 @@ use Rattle.values.specs.declared.Location.{Location}
 use Rattle.values.proofs.Location as L
 use Rattle.values.proofs.Location.Laws as L′
 use Rattle.cells.specs.declared.Cell.{Cell}
-use Rattle.cells.specs.Held.{heldIn, placeFrom}
+use Rattle.cells.specs.declared.Found.{Found}
+use Rattle.cells.specs.Held.{FoundAt}
 use Rattle.cells.proofs.Cell as C
 use Rattle.cells.proofs.Cell.Laws as C′
+use Rattle.cells.proofs.Found as F
+use Rattle.cells.proofs.Found.Laws as F′
 use Rattle.cells.proofs.Lent.{cell-vals, location-vals, location-makes, array, Cells, array-val, room-32, in-memory, out-memory}
 use Rattle.cells.proofs.search as search′
 use Rattle.cells.proofs.search.Symbol as search-def
@@ -97,17 +100,14 @@ module _ {M : Type 1} (𝓤 : URA M) (H : Heap 𝓤) (A : Atoms 𝓤) (W : Given
   abbrev Post : Val → SProp 𝓤
   Post = walkOf 𝓤 H A place′.ended stayed (place′.clauses 𝓤 H A mem run) .post bound
 
-  abbrev there : ℕ
-  there = placeFrom stops (l .0) p 0 (heldIn held ys)
-
   full : length ys ≡ 32
   full = ys-is .1 .0 .1
 
-  exits : (r : ℕ) → r ≡ there → r < 2 ^ 64 → ent 𝓤 (⋆ 𝓤 H A []) (Post (vint w64 r))
-  exits r e fits =
+  exits : (r : Found) (u : Val) → FoundAt stops (l .0) p held ys r → Is F.the-row r (u ∷ []) → ent 𝓤 (⋆ 𝓤 H A []) (Post u)
+  exits r u e r-is =
       qed W [] ∵
-      suffices ! _ (ends-at 𝓤 H A place′.ended stayed (place′.clauses 𝓤 H A mem run) W bound (vint w64 r) r (tt, (tt, (tt, (tt, (tt, tt))))) (tt, (tt, (tt, (tt, (tt, tt)))))) $ says ! e $
-      owned ! usize (Is usize) (uint-makes 𝓤 H A W w64) r _ (refl, fits) $ nothing ! $ nothing ! $ fjoin ! $ nothing ! $ fjoin ! $ nothing ! $ fjoin ! $ nothing ! $ fjoin ! $ nothing ! $ fjoin ! $ nothing ! $ done !
+      suffices ! _ (ends-at 𝓤 H A place′.ended stayed (place′.clauses 𝓤 H A mem run) W bound u r (tt, (tt, (tt, (tt, (tt, tt))))) (tt, (tt, (tt, (tt, (tt, tt)))))) $ says ! e $
+      owned ! F.the-row (Is F.the-row) (LL.makes F.the-type F′.the-plain 𝓤 H A) r _ r-is $ nothing ! $ nothing ! $ fjoin ! $ nothing ! $ fjoin ! $ nothing ! $ fjoin ! $ nothing ! $ fjoin ! $ nothing ! $ fjoin ! $ nothing ! $ done !
 
   -- the call of `search` on the array that lies at the block b, lent under the name γ for the lifetime α
   module _ (b : ℕ) (α : ℕ) (γ : GName) where
@@ -132,8 +132,8 @@ module _ {M : Type 1} (𝓤 : URA M) (H : Heap 𝓤) (A : Atoms 𝓤) (W : Given
     asked : ent 𝓤 (⋆ 𝓤 H A ((‵ (flft (α ∷ []) fullShare) ⊛ ‵ ftrue) ∷ ‵ (owns (ShrSlice (named 0) (α ∷ []) C.the-row ∷ usize ∷ L.the-row ∷ u32 ∷ bool ∷ []) given-to passed) ∷ [])) (Search 𝓤 H A mem run .pre to)
     asked = qed W ((‵ (flft (α ∷ []) fullShare) ⊛ ‵ ftrue) ∷ ‵ (owns (ShrSlice (named 0) (α ∷ []) C.the-row ∷ usize ∷ L.the-row ∷ u32 ∷ bool ∷ []) given-to passed) ∷ []) ∵ says ! within $ done !
 
-    told : (r : ℕ) → ent 𝓤 (ensured 𝓤 H A search′.ended (search′.clauses 𝓤 H A mem run) (α ∷ [], tt) given-to tt r) (fact 𝓤 (r ≡ there))
-    told r = exE 𝓤 _ (λ ws. snd∗ 𝓤 (sem 𝓤 H A (lasts search′.ended (α ∷ [], tt) given-to ws)) (fact 𝓤 (r ≡ there)))
+    told : (r : Found) → ent 𝓤 (ensured 𝓤 H A search′.ended (search′.clauses 𝓤 H A mem run) (α ∷ [], tt) given-to tt r) (fact 𝓤 (FoundAt stops (l .0) p held ys r))
+    told r = exE 𝓤 _ (λ ws. snd∗ 𝓤 (sem 𝓤 H A (lasts search′.ended (α ∷ [], tt) given-to ws)) (fact 𝓤 (FoundAt stops (l .0) p held ys r)))
 
   module _ (Cs : Calls 𝓤 H) (Λ : Loops 𝓤 H) (fm : FmC 𝓤 H (W .laws) Cs) (known : Triple 𝓤 (Cs #cells·search) (Search 𝓤 H A mem run)) where
     typed : T (hasTy array (array-val ys)) × WT (array-val ys)
@@ -160,16 +160,16 @@ module _ {M : Type 1} (𝓤 : URA M) (H : Heap 𝓤) (A : Atoms 𝓤) (W : Given
         owned ! L.the-row (Is L.the-row) (location-makes 𝓤 H A) l _ l-is $ fjoin ! $ owned ! usize (Is usize) (uint-makes 𝓤 H A W w64) held _ (refl, h-fits) $ fjoin ! $
         move ! (1 ∷ 0 ∷ []) $ fjoin ! $ nothing ! $ move ! (2 ∷ 0 ∷ []) $ join ! $ use2 W (raw (Search 𝓤 H A mem run .pre (to l₆ α γ))) (asked l₆ α γ) $
         calls-at ! fm (Search 𝓤 H A mem run) known (to l₆ α γ) (and-then ! (load ! (from ! (stop !)) (look ! 2 refl)) (and-then ! (load ! (from ! (stop !)) (look ! 13 refl)) (and-then ! (load ! (from ! (stop !)) (look ! 11 refl)) (and-then ! (load ! (from ! (stop !)) (look ! 9 refl)) (and-then ! (load ! (from ! (stop !)) (look ! 7 refl)) (no-more !)))))) (λ u.
-        use1 W (later (some (λ (r : ℕ). ((‵ (flft (α ∷ []) fullShare) ⊛ ‵ ftrue) ⊛ ‵ (usize .own r (u ∷ []))) ⊛ raw (ensured 𝓤 H A search′.ended (search′.clauses 𝓤 H A mem run) (α ∷ [], tt) (given-to l₆ α γ) tt r)))) (id⊢ 𝓤 _) $ await ! tt $ pick ! (λ r.
-        split ! $ move ! (1 ∷ []) $ use1 W (raw (fact 𝓤 (r ≡ there))) (told l₆ α γ r) $ heard ! (r ≡ there) (λ e. split ! $ split ! $
+        use1 W (later (some (λ (r : Found). ((‵ (flft (α ∷ []) fullShare) ⊛ ‵ ftrue) ⊛ ‵ (F.the-row .own r (u ∷ []))) ⊛ raw (ensured 𝓤 H A search′.ended (search′.clauses 𝓤 H A mem run) (α ∷ [], tt) (given-to l₆ α γ) tt r)))) (id⊢ 𝓤 _) $ await ! tt $ pick ! (λ r.
+        split ! $ move ! (1 ∷ []) $ use1 W (raw (fact 𝓤 (FoundAt stops (l .0) p held ys r))) (told l₆ α γ r) $ heard ! (FoundAt stops (l .0) p held ys r) (λ e. split ! $ split ! $
         -- [the token; true; the result; the lender's part; _8; …]: the lifetime ends, and the array is taken back
         lft-end ! tt $ move ! (0 ∷ 3 ∷ []) $ lent-back ! tt $ fsplit ! $ drop ! $ use1 W (given (Is Cells ys (array-vals cell-vals ys)) (‵ (fat fullShare array l₆ 0 (array-val ys)))) (out-memory 𝓤 H A W ys l₆ full) $ learn ! (λ _.
-        move ! (2 ∷ []) $ facts ! usize (Is usize) (shows 𝓤 H A usize) r (u ∷ []) (λ is.
+        move ! (2 ∷ []) $ facts ! F.the-row (Is F.the-row) (shows 𝓤 H A F.the-row) r (u ∷ []) (λ is.
         -- [_6; true; _8; …; _7; …; …; _5; …]
-        land ! (from ! (stop !)) (init ! 17 refl (uint-lawful 𝓤 H A W w64 .typed r _ is .0)) $ rewrite ! 17 (λ (v : Val). ‵ (fat fullShare (tyInt w64) l₀ 0 v)) (ap only (is .0)) refl $
+        land ! (from ! (stop !)) (init ! 17 refl (LL.lawful F.the-type F′.the-laws 𝓤 H A W .typed r _ is .0)) $
         returns ! (look ! 17 refl) $ forget ! 0 refl $ forget ! 2 refl $ forget ! 4 refl $ forget ! 7 refl $ forget ! 9 refl $ forget ! 11 refl $ forget ! 13 refl $ forget ! 15 refl $ forget ! 17 refl $
         move ! (17 ∷ 18 ∷ []) $ free1 ! $ move ! (15 ∷ 16 ∷ []) $ free1 ! $ move ! (13 ∷ 14 ∷ []) $ free1 ! $ move ! (11 ∷ 12 ∷ []) $ free1 ! $ move ! (9 ∷ 10 ∷ []) $ free1 ! $ move ! (7 ∷ 8 ∷ []) $ free1 ! $
-        move ! (0 ∷ 6 ∷ []) $ free1 ! $ move ! (3 ∷ 4 ∷ []) $ free1 ! $ move ! (1 ∷ 2 ∷ []) $ free1 ! $ free0 ! $ keep ! [] $ by ! (exits r e (is .1))))))))))))))))))
+        move ! (0 ∷ 6 ∷ []) $ free1 ! $ move ! (3 ∷ 4 ∷ []) $ free1 ! $ move ! (1 ∷ 2 ∷ []) $ free1 ! $ free0 ! $ keep ! [] $ by ! (exits r u e is)))))))))))))))))
 
 module _ {M : Type 1} (𝓤 : URA M) (H : Heap 𝓤) (A : Atoms 𝓤) (W : Given 𝓤 H A) (mem : Memory → SProp 𝓤) (run : Routine → Fun 𝓤) where
   place-walks : (Cs : Calls 𝓤 H) (Λ : Loops 𝓤 H) → FmC 𝓤 H (W .laws) Cs → Triple 𝓤 (Cs #cells·search) (Search 𝓤 H A mem run)

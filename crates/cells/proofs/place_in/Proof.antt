@@ -1,10 +1,6 @@
-use mathlib.Core.Path.{_≡_, refl, sym, _∙_, ap}
-use mathlib.Core.List.{List}
-use Prim.Native.Nat.{ℕ}
+use mathlib.Core.Path.{_≡_}
 use lib.ListN.{length}
-use Rattle.gil.specs.Machine.{Cell}
-use Rattle.cells.specs.Held.{heldIn, placeFrom}
-use Rattle.cells.specs.Putting.{used-all}
+use Rattle.cells.specs.Putting.{found-used}
 use borrow.Author.Needs.{needs}
 use Rattle.cells.proofs.place_in.Statement.{statement}
 use Rattle.cells.proofs.place_in.Tie as tie
@@ -13,18 +9,18 @@ use Rattle.cells.proofs.place_in.Lts as lts
 use Rattle.cells.proofs.place.Reads as place-reads
 use Rattle.cells.proofs.used.Reads as used-reads
 
--- src/lib.rt:97:18
+-- src/lib.rt:168:18
 used-requires : tie.Need-used-requires
 used-requires c κs = search needs
 
--- src/lib.rt:97:5
+-- src/lib.rt:168:5
 place-requires : tie.Need-place-requires
 place-requires c κs = search needs
 
--- src/lib.rt:94:1
+-- src/lib.rt:165:1
 returns : tie.Need-returns
 returns c = let whole : length (c .before .before .args .cells) ≡ 32 = search needs in
-    c .place .ensures ∙ ap (λ (n : ℕ). placeFrom (c .before .before .args .stops) (c .before .before .args .l .0) (c .before .before .args .q) 0 (heldIn n (c .before .before .args .cells))) (c .before .used .ensures) ∙ ap (λ (cs : List (Cell ℕ)). placeFrom (c .before .before .args .stops) (c .before .before .args .l .0) (c .before .before .args .q) 0 cs) (used-all (c .before .before .args .held) (c .before .before .args .cells) whole)
+    found-used (c .before .before .args .stops) (c .before .before .args .l .0) (c .before .before .args .q) (c .before .before .args .held) (c .before .before .args .cells) whole (c .place .result) (c .before .used .result) (c .before .used .ensures) (c .place .ensures)
 
 pub place-in-spec : {M : Type 1} → statement M
 place-in-spec = tie.close (tie.spec used-requires place-requires returns)

@@ -1,5 +1,5 @@
 -- `cells::search` meets its contract: a walk of its compiled code, by hand. The slice is looked into once, before the loop, and shut once, after
--- it; a turn takes one cell out of the row, reads it and puts it back. All that the proof knows of `ends` is that it meets its contract.
+-- it; a turn takes one cell out of the row, reads it and puts it back; the last one read is answered with the place. All that the proof knows of `ends` is that it meets its contract.
 -- Assumes nothing.
 use mathlib.Core.Path.{_≡_, refl, sym, _∙_, ap, subst}
 use mathlib.Core.Bool.{Bool, true, false}
@@ -24,7 +24,7 @@ use ghost.Atoms.{Atoms, sem}
 use contract.Monad.{Fun, fact}
 use contract.Running.{givenOf, tables, tablesOf}
 use types.Kit.{Given, Item, ‵, raw, _⊛_, some, later, Sq, runs, anyQ, atRet, _$_, _∵_, !, qed, by, move, keep, drop, use1, use2, split, join, pick, rewrite, fsplit, fjoin, suffices, frame, await, done}
-use types.Part.{whole, sub, look-in}
+use types.Part.{whole, sub, look-in, agg}
 use types.Run.{look, look-raw, init, store, forget, stop, hop, fld, from, load, lit, of-opd, bin, and-then, no-more, assigns, assigns-last, first, skips, jumps, blocks, branches, stays, leaves-loop, land, returns, enter, alloc1, alloc0, params1, pass1, pass0, free1, free0, exec, Below, again, loops}
 use types.Share.{arr-parts}
 use sound.WpLaws.{FmC, fmOf, WpFn-mono}
@@ -51,10 +51,13 @@ use Rattle.values.specs.declared.Location.{Location}
 use Rattle.values.proofs.Location as L
 use Rattle.values.proofs.Location.Laws as L′
 use Rattle.cells.specs.declared.Cell.{Cell}
-use Rattle.cells.specs.Held.{cellOf, noCell, heldIn, fromIn, reaches, placeFrom}
+use Rattle.cells.specs.declared.Found.{Found}
+use Rattle.cells.specs.Held.{cellOf, noCell, heldIn, fromIn, reaches, placeFrom, FoundAt}
 use Rattle.cells.specs.Laws.{from-none, place-none, placed-here, placed-later}
 use Rattle.cells.proofs.Cell as C
 use Rattle.cells.proofs.Cell.Laws as C′
+use Rattle.cells.proofs.Found as F
+use Rattle.cells.proofs.Found.Laws as F′
 use Rattle.cells.proofs.Lent.{cell-vals, location-vals, cell-makes, location-makes, scaled-fits, index-fits}
 use Rattle.cells.proofs.ends as ends
 use Rattle.cells.proofs.ends.Symbol as ends-def
@@ -77,7 +80,7 @@ slice = sliceTy (tyRef (named 0) imm (pointee (C.the-row .written)))
 
 -- the last statement of a turn, which the generated code has under no name
 abbrev counts : Body
-counts = assign (place 6 []) (op2 (add unsigned) (copy (place 6 [])) (int w64 1))
+counts = assign (place 7 []) (op2 (add unsigned) (copy (place 7 [])) (int w64 1))
 
 module _ {M : Type 1} (𝓤 : URA M) (H : Heap 𝓤) (A : Atoms 𝓤) (mem : Memory → SProp 𝓤) (run : Routine → Fun 𝓤) where
   -- the contract that the proof cites
@@ -117,18 +120,26 @@ module _ {M : Type 1} (𝓤 : URA M) (H : Heap 𝓤) (A : Atoms 𝓤) (W : Given
   Kept Γ = ‵ (fshr-bor κ (λ t. arr-parts (shares C.the-row) (length ys) .part t ys b o)) ∷ ‵ (fres γ (codedHoleys C.the-row .code (heres C.the-row ys)))
       ∷ ‵ (at-slice C.the-row s (at .0)) ∷ Γ
 
-  exits : (i : ℕ) → i ≡ there → i < 2 ^ 64 → ent 𝓤 (types.Kit.⋆ 𝓤 H A (‵ (flft κ q) ∷ Kept [])) (Post (vint w64 i))
-  exits i e fits =
+  -- what is answered
+  abbrev answer : ℕ → Cell → Found
+  answer i c = record { place = i; cell = c }
+
+  answer-is : (i : ℕ) (c : Cell) → i < 2 ^ 64 → Is C.the-row c (cell-vals c) → Is F.the-row (answer i c) (F′.lowered (answer i c) ∷ [])
+  answer-is i c fits c-is = LL.owes F.the-type F′.the-laws (answer i c) ((refl, fits), (c-is, tt))
+
+  exits : (i : ℕ) (c : Cell) → FoundAt stops (l .0) p held ys (answer i c) → i < 2 ^ 64 → Is C.the-row c (cell-vals c)
+      → ent 𝓤 (types.Kit.⋆ 𝓤 H A (‵ (flft κ q) ∷ Kept [])) (Post (F′.lowered (answer i c)))
+  exits i c e fits c-is =
       qed W (‵ (flft κ q) ∷ Kept []) ∵
-      suffices ! _ (ends-at 𝓤 H A search′.ended stayed (search′.clauses 𝓤 H A mem run) W bound (vint w64 i) i (tt, (tt, (tt, (tt, (tt, tt))))) (tt, (tt, (tt, (tt, (tt, tt)))))) $ says ! e $
+      suffices ! _ (ends-at 𝓤 H A search′.ended stayed (search′.clauses 𝓤 H A mem run) W bound (F′.lowered (answer i c)) (answer i c) (tt, (tt, (tt, (tt, (tt, tt))))) (tt, (tt, (tt, (tt, (tt, tt)))))) $ says ! e $
       nothing ! $ move ! (1 ∷ 0 ∷ []) $ join ! $ frame ! $ move ! (1 ∷ 0 ∷ []) $ fjoin ! $ move ! (1 ∷ 0 ∷ []) $ fjoin ! $
       nothing ! $ owned ! bool (Is bool) (bool-makes 𝓤 H A W) stops _ refl $ fjoin ! $ owned ! u32 (Is u32) (uint-makes 𝓤 H A W w32) p _ (refl, p-fits) $ fjoin ! $
       owned ! L.the-row (Is L.the-row) (location-makes 𝓤 H A) l _ l-is $ fjoin ! $ owned ! usize (Is usize) (uint-makes 𝓤 H A W w64) held _ (refl, h-fits) $ fjoin ! $
-      move ! (1 ∷ 0 ∷ []) $ fjoin ! $ frame ! $ owned ! usize (Is usize) (uint-makes 𝓤 H A W w64) i _ (refl, fits) $ done !
+      move ! (1 ∷ 0 ∷ []) $ fjoin ! $ frame ! $ owned ! F.the-row (Is F.the-row) (LL.makes F.the-type F′.the-plain 𝓤 H A) (answer i c) _ (answer-is i c fits c-is) $ done !
 
-  -- the loop's variant: a place from which the search ends where it ends from the start
+  -- the loop's variant: a place from which the search ends where it ends from the start, and the cell read before
   abbrev Upto : Type 0
-  Upto = (i : ℕ) × (i ≤ held) × (placeFrom stops (l .0) p i (fromIn i held ys) ≡ there)
+  Upto = (i : ℕ) × (c : Cell) × (i ≤ held) × (Is C.the-row c (cell-vals c)) × (placeFrom stops (l .0) p i (fromIn i held ys) ≡ there)
 
   abbrev Nearer : Upto → Upto → Type 0
   Nearer j i = held - j .0 < held - i .0
@@ -137,10 +148,19 @@ module _ {M : Type 1} (𝓤 : URA M) (H : Heap 𝓤) (A : Atoms 𝓤) (W : Given
   Nearer-wf = InvImage·wf (λ (i : Upto). held - i .0) (Nat·lt-wfRel .wf)
 
   fits : (i : Upto) → i .0 < 2 ^ 64
-  fits i = omega (arith, i .1, h-fits)
+  fits i = omega (arith, i .2, h-fits)
+
+  abbrev sought : Cell
+  sought = record { location = l; property = p; value = 0 }
+
+  sought-is : Is C.the-row sought (cell-vals sought)
+  sought-is = LL.owes C.the-type C′.the-laws sought (l-is, ((refl, p-fits), ((refl, lit< tt), tt)))
 
   abbrev start : Upto
-  start = (0, omega arith, refl)
+  start = (0, sought, omega arith, sought-is, refl)
+
+  typed : (c : Cell) → Is C.the-row c (cell-vals c) → T (hasTy C′.mir (C′.lowered c)) × WT (C′.lowered c)
+  typed c g = LL.lawful C.the-type C′.the-laws 𝓤 H A W .typed c _ g .0
 
   module _ (𝓣 : Tables 𝓤 H) (q′ : Share) (l₀ l₁ l₂ l₃ l₄ l₅ l₆ l₇ l₈ l₉ l₁₀ l₁₁ l₁₂ : ℕ) where
     abbrev Cs : Calls 𝓤 H
@@ -150,37 +170,41 @@ module _ {M : Type 1} (𝓤 : URA M) (H : Heap 𝓤) (A : Atoms 𝓤) (W : Given
     Λ = 𝓣 .Λ
 
     abbrev En : Env 𝓤 H
-    En = (word, l₀) ∷ (slice, l₁) ∷ (word, l₂) ∷ (L′.mir, l₃) ∷ (tyInt w32, l₄) ∷ (tyBool, l₅) ∷ (word, l₆) ∷ (C′.mir, l₇) ∷ (tyBool, l₈) ∷ (word, l₉) ∷ (tyPtr, l₁₀) ∷ (C′.mir, l₁₁) ∷ (tyBool, l₁₂) ∷ []
+    En = (F′.mir, l₀) ∷ (slice, l₁) ∷ (word, l₂) ∷ (L′.mir, l₃) ∷ (tyInt w32, l₄) ∷ (tyBool, l₅) ∷ (C′.mir, l₆) ∷ (word, l₇) ∷ (tyBool, l₈) ∷ (word, l₉) ∷ (tyPtr, l₁₀) ∷ (C′.mir, l₁₁) ∷ (tyBool, l₁₂) ∷ []
+
+    -- at the place i, with the cell c read before
+    abbrev Before : ℕ → Cell → List (Item 𝓤)
+    Before i c = ‵ (row C.the-row q′ ys b o) ∷ ‵ (fobor κ q (arr-parts (shares C.the-row) (length ys) .part q′ ys b o)) ∷ Kept (
+        ‵ (froom tyBool l₁₂ 0) ∷ ‵ (fdies tyBool l₁₂) ∷ ‵ (froom C′.mir l₁₁ 0) ∷ ‵ (fdies C′.mir l₁₁) ∷ ‵ (froom tyPtr l₁₀ 0) ∷ ‵ (fdies tyPtr l₁₀) ∷ ‵ (froom word l₉ 0) ∷ ‵ (fdies word l₉)
+        ∷ ‵ (froom tyBool l₈ 0) ∷ ‵ (fdies tyBool l₈) ∷ ‵ (fat fullShare word l₇ 0 (vint w64 i)) ∷ ‵ (fdies word l₇) ∷ ‵ (fat fullShare C′.mir l₆ 0 (C′.lowered c)) ∷ ‵ (fdies C′.mir l₆)
+        ∷ ‵ (fat fullShare tyBool l₅ 0 (vbool stops)) ∷ ‵ (fdies tyBool l₅) ∷ ‵ (fat fullShare (tyInt w32) l₄ 0 (vint w32 p)) ∷ ‵ (fdies (tyInt w32) l₄) ∷ ‵ (fat fullShare L′.mir l₃ 0 lv) ∷ ‵ (fdies L′.mir l₃)
+        ∷ ‵ (fat fullShare word l₂ 0 (vint w64 held)) ∷ ‵ (fdies word l₂) ∷ ‵ (fat fullShare slice l₁ 0 (sliceVal (b, o) (length ys))) ∷ ‵ (fdies slice l₁) ∷ ‵ (froom F′.mir l₀ 0) ∷ ‵ (fdies F′.mir l₀) ∷ [])
 
     abbrev At : Upto → List (Item 𝓤)
-    At i = ‵ (row C.the-row q′ ys b o) ∷ ‵ (fobor κ q (arr-parts (shares C.the-row) (length ys) .part q′ ys b o)) ∷ Kept (
-        ‵ (froom tyBool l₁₂ 0) ∷ ‵ (fdies tyBool l₁₂) ∷ ‵ (froom C′.mir l₁₁ 0) ∷ ‵ (fdies C′.mir l₁₁) ∷ ‵ (froom tyPtr l₁₀ 0) ∷ ‵ (fdies tyPtr l₁₀) ∷ ‵ (froom word l₉ 0) ∷ ‵ (fdies word l₉)
-        ∷ ‵ (froom tyBool l₈ 0) ∷ ‵ (fdies tyBool l₈) ∷ ‵ (froom C′.mir l₇ 0) ∷ ‵ (fdies C′.mir l₇) ∷ ‵ (fat fullShare word l₆ 0 (vint w64 (i .0))) ∷ ‵ (fdies word l₆)
-        ∷ ‵ (fat fullShare tyBool l₅ 0 (vbool stops)) ∷ ‵ (fdies tyBool l₅) ∷ ‵ (fat fullShare (tyInt w32) l₄ 0 (vint w32 p)) ∷ ‵ (fdies (tyInt w32) l₄) ∷ ‵ (fat fullShare L′.mir l₃ 0 lv) ∷ ‵ (fdies L′.mir l₃)
-        ∷ ‵ (fat fullShare word l₂ 0 (vint w64 held)) ∷ ‵ (fdies word l₂) ∷ ‵ (fat fullShare slice l₁ 0 (sliceVal (b, o) (length ys))) ∷ ‵ (fdies slice l₁) ∷ ‵ (froom word l₀ 0) ∷ ‵ (fdies word l₀) ∷ [])
+    At i = Before (i .0) (i .1)
 
     -- a turn ends nearer to the end, or the loop is left and the rest of the body runs
     abbrev Turned : Upto → Out → SProp 𝓤
-    Turned i = afterTurn 𝓤 H (Below 𝓤 H A Nearer At i) (afterBlock 𝓤 H (afterSeq 𝓤 H (Wp 𝓤 H Cs Λ En mir.t-3 (atReturn 𝓤 H En Post)) (atReturn 𝓤 H En Post)))
+    Turned i = afterTurn 𝓤 H (Below 𝓤 H A Nearer At i) (afterBlock 𝓤 H (afterSeq 𝓤 H (Wp 𝓤 H Cs Λ En mir.t-4 (atReturn 𝓤 H En Post)) (atReturn 𝓤 H En Post)))
 
-    -- the loop is left at the place where the search ends: the slice is shut, and the place returned
-    leaves : (i : Upto) → i .0 ≡ there → Sq W (At i) (runs Cs Λ En mir.t-3 (atRet En Post))
-    leaves i e =
-        assigns ! (of-opd ! (load ! (from ! (stop !)) (look ! 17 refl))) (from ! (stop !)) (init ! 29 refl (tt, record { fits = fits i })) $
+    -- the loop is left at the place where the search ends: the slice is shut, and the place returned with the cell read last
+    leaves : (i : ℕ) (c : Cell) → FoundAt stops (l .0) p held ys (answer i c) → i < 2 ^ 64 → Is C.the-row c (cell-vals c) → Sq W (Before i c) (runs Cs Λ En mir.t-4 (atRet En Post))
+    leaves i c e i-fits c-is =
+        assigns ! (agg ! (and-then ! (load ! (from ! (stop !)) (look ! 15 refl)) (and-then ! (load ! (from ! (stop !)) (look ! 17 refl)) (no-more !)))) (from ! (stop !)) (init ! 29 refl (LL.lawful F.the-type F′.the-laws 𝓤 H A W .typed (answer i c) _ (answer-is i c i-fits c-is) .0)) $
         shuts-slice ! tt C.the-row q′ ys b o $
-        returns ! (look ! 28 refl) $ forget ! 16 refl $ forget ! 18 refl $ forget ! 20 refl $ forget ! 22 refl $ forget ! 24 refl $ forget ! 26 refl $ forget ! 28 refl $
+        returns ! (look ! 28 refl) $ forget ! 14 refl $ forget ! 16 refl $ forget ! 18 refl $ forget ! 20 refl $ forget ! 22 refl $ forget ! 24 refl $ forget ! 26 refl $ forget ! 28 refl $
         move ! (28 ∷ 29 ∷ []) $ free1 ! $ move ! (26 ∷ 27 ∷ []) $ free1 ! $ move ! (24 ∷ 25 ∷ []) $ free1 ! $ move ! (22 ∷ 23 ∷ []) $ free1 ! $ move ! (20 ∷ 21 ∷ []) $ free1 ! $
         move ! (18 ∷ 19 ∷ []) $ free1 ! $ move ! (16 ∷ 17 ∷ []) $ free1 ! $ move ! (14 ∷ 15 ∷ []) $ free1 ! $ move ! (12 ∷ 13 ∷ []) $ free1 ! $ move ! (10 ∷ 11 ∷ []) $ free1 ! $
-        move ! (8 ∷ 9 ∷ []) $ free1 ! $ move ! (6 ∷ 7 ∷ []) $ free1 ! $ move ! (4 ∷ 5 ∷ []) $ free1 ! $ free0 ! $ by ! (exits (i .0) e (fits i))
+        move ! (8 ∷ 9 ∷ []) $ free1 ! $ move ! (6 ∷ 7 ∷ []) $ free1 ! $ move ! (4 ∷ 5 ∷ []) $ free1 ! $ free0 ! $ by ! (exits i c e i-fits c-is)
 
     -- the turn that finds no cell left
     over : (i : Upto) → held ≤ i .0 → Sq W (At i) (runs Cs Λ En mir.turn-1 (anyQ (Turned i)))
     unfolding afterTurn
     over i h =
-        assigns ! (bin ! (load ! (from ! (stop !)) (look ! 17 refl)) (load ! (from ! (stop !)) (look ! 25 refl)) tt) (from ! (stop !)) (init ! 13 refl (tt, tt)) $
+        assigns ! (bin ! (load ! (from ! (stop !)) (look ! 15 refl)) (load ! (from ! (stop !)) (look ! 25 refl)) tt) (from ! (stop !)) (init ! 13 refl (tt, tt)) $
         rewrite ! 13 (λ (t : Bool). ‵ (fat fullShare tyBool l₈ 0 (vbool t))) (le-ltb (i .0) held h) refl $
-        leaves-loop ! (load ! (from ! (stop !)) (look ! 13 refl)) $ forget ! 13 refl $ exec ! Cs Λ En mir.t-3 (atRet En Post) $
-        leaves i (sym (place-none (i .0) held ys stops (l .0) p (from-none (i .0) held ys h)) ∙ i .2)
+        leaves-loop ! (load ! (from ! (stop !)) (look ! 13 refl)) $ forget ! 13 refl $ exec ! Cs Λ En mir.t-4 (atRet En Post) $
+        leaves (i .0) (i .1) (sym (place-none (i .0) held ys stops (l .0) p (from-none (i .0) held ys h)) ∙ i .4, λ a _. absurd (omega (arith, a, h))) (fits i) (i .3)
 
     -- the call of `ends` on a cell
     module _ (c : Cell) (c-is : Is C.the-row c (cell-vals c)) where
@@ -207,33 +231,33 @@ module _ {M : Type 1} (𝓤 : URA M) (H : Heap 𝓤) (A : Atoms 𝓤) (W : Given
       more : (i : Upto) → i .0 < held → Sq W (At i) (runs Cs Λ En mir.turn-1 (anyQ (Turned i)))
       unfolding afterTurn
       more i h =
-          assigns ! (bin ! (load ! (from ! (stop !)) (look ! 17 refl)) (load ! (from ! (stop !)) (look ! 25 refl)) tt) (from ! (stop !)) (init ! 13 refl (tt, tt)) $
+          assigns ! (bin ! (load ! (from ! (stop !)) (look ! 15 refl)) (load ! (from ! (stop !)) (look ! 25 refl)) tt) (from ! (stop !)) (init ! 13 refl (tt, tt)) $
           rewrite ! 13 (λ (t : Bool). ‵ (fat fullShare tyBool l₈ 0 (vbool t))) (lt-ltb (i .0) held h) refl $
           stays ! (load ! (from ! (stop !)) (look ! 13 refl)) $
-          assigns ! (bin ! (load ! (from ! (stop !)) (look ! 17 refl)) (lit ! tt) (record { fits = scaled })) (from ! (stop !)) (init ! 11 refl (tt, record { fits = scaled })) $
+          assigns ! (bin ! (load ! (from ! (stop !)) (look ! 15 refl)) (lit ! tt) (record { fits = scaled })) (from ! (stop !)) (init ! 11 refl (tt, record { fits = scaled })) $
           assigns ! (bin ! (load ! (from ! (fld ! refl (stop !))) (look-in ! 27 (sub ! 0 refl (whole !)))) (load ! (from ! (stop !)) (look ! 11 refl)) tt) (from ! (stop !)) (init ! 9 refl (tt, tt)) $
           rewrite ! 9 (λ (n : ℕ). ‵ (fat fullShare tyPtr l₁₀ 0 (vptr b n))) (sym (place-is 16 o (i .0))) refl $
           elem-out ! C.the-row (Is C.the-row) (shows 𝓤 H A C.the-row) cell-vals (LL.tells C.the-type C′.the-laws) q′ ys (i .0) noCell b o inside (λ g.
           -- [the cell; what it owns; the others; the open borrow; …]
-          assigns ! (of-opd ! (load ! (from ! (hop ! (look ! 11 refl) (stop !))) (look-raw ! 0 refl))) (from ! (stop !)) (init ! 9 refl (typed g)) $
-          assigns ! (of-opd ! (load ! (from ! (stop !)) (look ! 9 refl))) (from ! (stop !)) (init ! 17 refl (typed g)) $
+          assigns ! (of-opd ! (load ! (from ! (hop ! (look ! 11 refl) (stop !))) (look-raw ! 0 refl))) (from ! (stop !)) (init ! 9 refl (typed c g)) $
+          assigns ! (of-opd ! (load ! (from ! (stop !)) (look ! 9 refl))) (from ! (stop !)) (store ! 19 refl (typed c g)) $
           elem-back ! C.the-row q′ ys (i .0) noCell (cell-vals c) b o inside $
           nothing ! $ owned ! bool (Is bool) (bool-makes 𝓤 H A W) stops _ refl $ fjoin ! $ owned ! u32 (Is u32) (uint-makes 𝓤 H A W w32) p _ (refl, p-fits) $ fjoin ! $
           owned ! L.the-row (Is L.the-row) (location-makes 𝓤 H A) l _ l-is $ fjoin ! $ owned ! C.the-row (Is C.the-row) (cell-makes 𝓤 H A) c _ g $ fjoin ! $
           nothing ! $ use2 W (raw (Ends 𝓤 H A mem run .pre (to c g))) (asked c g) $
-          calls-at ! fm (Ends 𝓤 H A mem run) known (to c g) (and-then ! (load ! (from ! (stop !)) (look ! 16 refl)) (and-then ! (load ! (from ! (stop !)) (look ! 24 refl)) (and-then ! (load ! (from ! (stop !)) (look ! 22 refl)) (and-then ! (load ! (from ! (stop !)) (look ! 20 refl)) (no-more !))))) (λ u.
+          calls-at ! fm (Ends 𝓤 H A mem run) known (to c g) (and-then ! (load ! (from ! (stop !)) (look ! 18 refl)) (and-then ! (load ! (from ! (stop !)) (look ! 24 refl)) (and-then ! (load ! (from ! (stop !)) (look ! 22 refl)) (and-then ! (load ! (from ! (stop !)) (look ! 20 refl)) (no-more !))))) (λ u.
           use1 W (later (some (λ (r : Bool). (‵ ftrue ⊛ ‵ (bool .own r (u ∷ []))) ⊛ raw (ensured 𝓤 H A ends.ended (ends.clauses 𝓤 H A mem run) tt (given-to c g) tt r)))) (id⊢ 𝓤 _) $ await ! tt $ pick ! (λ r.
           split ! $ move ! (1 ∷ []) $ use1 W (raw (fact 𝓤 (r ≡ reaches stops (l .0) p (cellOf c)))) (told c g r) $ heard ! (r ≡ reaches stops (l .0) p (cellOf c)) (λ e. split ! $ drop ! $
           facts ! bool (Is bool) (shows 𝓤 H A bool) r (u ∷ []) (λ is.
           land ! (from ! (stop !)) (init ! 5 refl (bool-lawful 𝓤 H A W .typed r _ is .0)) $
           rewrite ! 5 (λ (v : Val). ‵ (fat fullShare tyBool l₁₂ 0 v)) (ap only is) refl $
           first ! $ branches ! (load ! (from ! (stop !)) (look ! 5 refl))
-          (λ hit. jumps ! $ forget ! 5 refl $ forget ! 7 refl $ forget ! 9 refl $ forget ! 11 refl $ forget ! 13 refl $ forget ! 15 refl $ exec ! Cs Λ En mir.t-3 (atRet En Post) $
-          leaves i (sym (placed-here (i .0) held ys h inside stops (l .0) p (sym e ∙ yes-it r hit)) ∙ i .2))
+          (λ hit. jumps ! $ forget ! 5 refl $ forget ! 7 refl $ forget ! 9 refl $ forget ! 11 refl $ forget ! 13 refl $ exec ! Cs Λ En mir.t-4 (atRet En Post) $
+          leaves (i .0) c (sym (placed-here (i .0) held ys h inside stops (l .0) p (sym e ∙ yes-it r hit)) ∙ i .4, λ _ _. refl) (fits i) g)
           (λ miss. skips ! $ exec ! Cs Λ En counts (anyQ (Turned i)) $
-          assigns-last ! (bin ! (load ! (from ! (stop !)) (look ! 17 refl)) (lit ! tt) (record { fits = fits (next e miss) })) (from ! (stop !)) (store ! 17 refl (tt, record { fits = fits (next e miss) })) $
-          forget ! 5 refl $ forget ! 7 refl $ forget ! 9 refl $ forget ! 11 refl $ forget ! 13 refl $ forget ! 15 refl $
-          again ! Nearer At i (next e miss) (omega (arith, h))))))))
+          assigns-last ! (bin ! (load ! (from ! (stop !)) (look ! 15 refl)) (lit ! tt) (record { fits = fits (next g e miss) })) (from ! (stop !)) (store ! 15 refl (tt, record { fits = fits (next g e miss) })) $
+          forget ! 5 refl $ forget ! 7 refl $ forget ! 9 refl $ forget ! 11 refl $ forget ! 13 refl $
+          again ! Nearer At i (next g e miss) (omega (arith, h))))))))
         where
           c : Cell
           c = getD ys (i .0) noCell
@@ -244,9 +268,6 @@ module _ {M : Type 1} (𝓤 : URA M) (H : Heap 𝓤) (A : Atoms 𝓤) (W : Given
           scaled : i .0 * 16 < 2 ^ 64
           scaled = scaled-fits (i .0) (length ys) room inside
 
-          typed : Is C.the-row c (cell-vals c) → T (hasTy C′.mir (C′.lowered c)) × WT (C′.lowered c)
-          typed g = LL.lawful C.the-type C′.the-laws 𝓤 H A W .typed c _ g .0
-
           yes-it : (r : Bool) → T r → r ≡ true
           yes-it true t = refl
           yes-it false t = absurd t
@@ -255,8 +276,8 @@ module _ {M : Type 1} (𝓤 : URA M) (H : Heap 𝓤) (A : Atoms 𝓤) (W : Given
           not-it true t = absurd t
           not-it false t = refl
 
-          next : {r : Bool} → r ≡ reaches stops (l .0) p (cellOf c) → T (mathlib.Core.Bool.not r) → Upto
-          next {r} e miss = (i .0 + 1, omega (arith, h), sym (placed-later (i .0) held ys h inside stops (l .0) p (sym e ∙ not-it r miss)) ∙ i .2)
+          next : {r : Bool} → Is C.the-row c (cell-vals c) → r ≡ reaches stops (l .0) p (cellOf c) → T (mathlib.Core.Bool.not r) → Upto
+          next {r} g e miss = (i .0 + 1, c, omega (arith, h), g, sym (placed-later (i .0) held ys h inside stops (l .0) p (sym e ∙ not-it r miss)) ∙ i .4)
 
       turns : (i : Upto) → Sq W (At i) (runs Cs Λ En mir.turn-1 (anyQ (Turned i)))
       turns i = by-test (ltb (i .0) held) refl
@@ -265,7 +286,7 @@ module _ {M : Type 1} (𝓤 : URA M) (H : Heap 𝓤) (A : Atoms 𝓤) (W : Given
           by-test true e = more i (ltb-true (i .0) held e)
           by-test false e = over i (ltb-false (i .0) held e)
 
-      searches : Sq W (At start) (runs Cs Λ En mir.t-2 (atRet En Post))
+      searches : Sq W (At start) (runs Cs Λ En mir.t-3 (atRet En Post))
       searches = first ! $ blocks ! $ loops ! 𝓣 Nearer Nearer-wf At turns start
 
   module _ (𝓣 : Tables 𝓤 H) (fm : FmC 𝓤 H (W .laws) (𝓣 .C)) (known : Triple 𝓤 (𝓣 .C #cells·ends) (Ends 𝓤 H A mem run)) where
@@ -278,7 +299,8 @@ module _ {M : Type 1} (𝓤 : URA M) (H : Heap 𝓤) (A : Atoms 𝓤) (W : Given
         alloc1 ! (λ l₀. alloc1 ! (λ l₁. alloc1 ! (λ l₂. alloc1 ! (λ l₃. alloc1 ! (λ l₄. alloc1 ! (λ l₅. alloc1 ! (λ l₆. alloc1 ! (λ l₇. alloc1 ! (λ l₈. alloc1 ! (λ l₉. alloc1 ! (λ l₁₀. alloc1 ! (λ l₁₁. alloc1 ! (λ l₁₂. alloc0 ! $ params1 ! $
         pass1 ! (init ! 22 refl (tt, (tt, (record { fits = room .0 }, tt)))) $ pass1 ! (init ! 20 refl (tt, record { fits = h-fits })) $
         pass1 ! (init ! 18 refl (LL.lawful L.the-type L′.the-laws 𝓤 H A W .typed l _ l-is .0)) $ pass1 ! (init ! 16 refl (tt, record { fits = p-fits })) $ pass1 ! (init ! 14 refl (tt, tt)) $ pass0 ! $
-        assigns ! (of-opd ! (lit ! tt)) (from ! (stop !)) (init ! 12 refl (tt, record { fits = lit< tt })) $
+        assigns ! (agg ! (and-then ! (load ! (from ! (stop !)) (look ! 18 refl)) (and-then ! (load ! (from ! (stop !)) (look ! 16 refl)) (and-then ! (lit ! tt) (no-more !))))) (from ! (stop !)) (init ! 12 refl (typed sought sought-is)) $
+        assigns ! (of-opd ! (lit ! tt)) (from ! (stop !)) (init ! 10 refl (tt, record { fits = lit< tt })) $
         move ! (27 ∷ []) $ fsplit ! $ fsplit ! $ move ! (1 ∷ []) $ fsplit ! $ move ! (30 ∷ []) $ split ! $ move ! (3 ∷ 0 ∷ []) $
         looks-slice ! tt C.the-row (Is C.the-row) (shows 𝓤 H A C.the-row) cell-vals (LL.tells C.the-type C′.the-laws) (LL.copy C.the-type C′.the-copy 𝓤 H A W) ys b o (λ q′.
         keep ! (0 ∷ 1 ∷ 2 ∷ 4 ∷ 5 ∷ 7 ∷ 8 ∷ 9 ∷ 10 ∷ 11 ∷ 12 ∷ 13 ∷ 14 ∷ 15 ∷ 16 ∷ 17 ∷ 18 ∷ 19 ∷ 20 ∷ 21 ∷ 22 ∷ 23 ∷ 24 ∷ 25 ∷ 26 ∷ 27 ∷ 28 ∷ 29 ∷ 30 ∷ 31 ∷ 32 ∷ []) $

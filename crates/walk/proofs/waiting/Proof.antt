@@ -6,11 +6,11 @@ use Rattle.walk.proofs.waiting.Reads as reads
 use Rattle.walk.proofs.waiting.Lts as lts
 use Rattle.std.proofs.num.wrapping_add_u32.Reads as wrapping-add-u32-reads
 
--- src/lib.rt:103:16
+-- src/lib.rt:95:16
 wrapping-add-u32-requires : tie.Need-wrapping-add-u32-requires
 wrapping-add-u32-requires c κs = search needs
 
--- src/lib.rt:91:1
+-- src/lib.rt:90:1
 returns : tie.Need-returns
 unfolding branchIn
 returns c = rw (← c .wrapping-add-u32 .ensures)
