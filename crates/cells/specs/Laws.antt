@@ -1,18 +1,19 @@
 -- Laws of the cells in use that the loops go by. Assumes nothing.
 use Prim.Native.Nat.{ℕ, suc, _+_, _-_, _<_, _≤_}
-use mathlib.Core.Bool.{Bool, true, false, _&&_}
+use mathlib.Core.Bool.{Bool, true, false, _&&_, _||_}
 use mathlib.Core.Path.{_≡_, refl, sym, _∙_, ap, ap₂}
 use mathlib.Core.List.{List, [], _∷_, _++_, map, map-append, append-nil}
 use mathlib.Core.Option.{some}
 use native.Mathlib.Numerals.{add-one}
+use native.Mathlib.Decide.{decLe}
 use native.Mathlib.Omega.{arith}
 use lib.ListN.{length, getD, take, drop, set, length-take, drop-of-length-le, take-append-drop, length-map}
-use lib.Dec.{eqb, ltb}
+use lib.Dec.{eqb, ltb, leb}
 use lib.Seq.{drop-cons, getD-take, take-suc-set, take-set-lt, drop-set-lt, append-snoc, length-take-le}
-use borrow.Author.Tests.{ltb-true, ltb-false}
+use borrow.Author.Tests.{ltb-true, ltb-false, eq-eqb, ne-eqb, lt-ltb, le-ltb, le-leb, lt-leb}
 use Rattle.gil.specs.Theory.Tests.{no-false, and-left, and-right}
 use Rattle.gil.specs.Machine as Machine
-use Rattle.gil.specs.Machine.{isAt, cellAt, withoutCells}
+use Rattle.gil.specs.Machine.{isAt, isBefore, cellAt, withoutCells}
 use Rattle.cells.specs.declared.Cell.{Cell}
 use Rattle.cells.specs.declared.Found.{Found}
 use Rattle.cells.specs.Held.{cellOf, noCell, heldIn, fromIn, foundIn, reaches, placeFrom, leads, FoundAt, hits, shiftIn, carriedIn}
@@ -191,3 +192,30 @@ module _ (l i n held : ℕ) (zs : List Cell) where
       ∙ ap (λ (r : List (Machine.Cell ℕ)). heldIn n zs ++ r) (sym (without-none i held zs l (from-none i held zs over)))
       ∙ e in
       (sym (length-take-le n zs h) ∙ sym (length-map (take n zs) cellOf) ∙ ap length f, f)
+
+-- whether a search that stops ends at a cell, by one comparison
+at-or-before : (q p : ℕ) → eqb q p || ltb q p ≡ leb q p
+at-or-before q p = elim (decLe q p) [ yes h ↦ below h | no h ↦ above (omega arith) ]
+  where
+    below : q ≤ p → eqb q p || ltb q p ≡ leb q p
+    below h = elim (decLe p q) [ yes k ↦ rw (eq-eqb q p (omega arith), le-leb q p h) | no k ↦ rw (ne-eqb q p (λ e. omega arith), lt-ltb q p (omega arith), le-leb q p h) ]
+
+    above : p < q → eqb q p || ltb q p ≡ leb q p
+    above h = rw (ne-eqb q p (λ e. omega arith), le-ltb q p (omega arith), lt-leb q p h)
+
+or-false : (b : Bool) → b || false ≡ b
+or-false true = refl
+or-false false = refl
+
+module _ (l q : ℕ) (c : Machine.Cell ℕ) where
+  pub reached-here : l ≡ c .location → leb q (c .property) ≡ reaches true l q c
+  unfolding reaches isAt isBefore
+  reached-here e = sym (rw (eq-eqb l (c .location) e, le-ltb l (c .location) (omega arith)) (at-or-before q (c .property)))
+
+  pub reached-elsewhere : (l ≡ c .location → ⊥) → ltb l (c .location) ≡ reaches true l q c
+  unfolding reaches isAt isBefore
+  reached-elsewhere h = rw (ne-eqb l (c .location) h) (sym (or-false (ltb l (c .location))))
+
+  pub reached-at : isAt l q c ≡ reaches false l q c
+  unfolding reaches
+  reached-at = sym (or-false (isAt l q c))

@@ -7,7 +7,7 @@ ghost use mathlib.Core.Bool.{true};
 ghost use mathlib.Core.List.{List};
 ghost use Prim.Native.Nat.{_<_, _≤_, min};
 ghost use lib.ListN.{length};
-ghost use Rattle.gil.specs.Machine.{isAt, isBefore, cellAt, putCell, withoutCells};
+ghost use Rattle.gil.specs.Machine.{isAt, cellAt, putCell, withoutCells};
 ghost use Rattle.gil.specs.Values.{term};
 ghost use Rattle.cells.specs.Held.{cellOf, heldIn, foundIn, reaches, FoundAt, hits, lastOf, carriedIn};
 use values::Location;
@@ -38,29 +38,24 @@ fn is_at(c: Cell, l: Location, q: u32) -> bool
     false
 }
 
-fn is_before(c: Cell, l: Location, q: u32) -> bool
-    ensures { λ r. ⌜ r ≡ isBefore (l .0) q (cellOf c) ⌝ }
+// The cell is the one sought, or one beyond it
+fn is_reached(c: Cell, l: Location, q: u32) -> bool
+    ensures { λ r. ⌜ r ≡ reaches true (l .0) q (cellOf c) ⌝ }
 {
-    if l.0 < c.location.0 {
-        return true;
-    }
     if l.0 == c.location.0 {
-        return q < c.property;
+        return q <= c.property;
     }
-    false
+    l.0 < c.location.0
 }
 
 // Whether a search ends at the cell: it is the one sought, or, where the search `stops`, one beyond it
 fn ends(c: Cell, l: Location, q: u32, stops: bool) -> bool
     ensures { λ r. ⌜ r ≡ reaches stops (l .0) q (cellOf c) ⌝ }
 {
-    if is_at(c, l, q) {
-        return true;
-    }
     if stops {
-        return is_before(c, l, q);
+        return is_reached(c, l, q);
     }
-    false
+    is_at(c, l, q)
 }
 
 // Where a search ended, and the cell that stands there, if one is in use there
