@@ -72,12 +72,13 @@ module _ (code store : List ℕ) (frame : ℕ) where
   unfolding operandIn operandBy
   leaf-is {v} d at pool count e h = simp (← e, ne-eqb v 0 (λ z. absurd (omega arith)))
 
-  pub simply-worked : {at a b v : ℕ} → at < 18993 → (getD code at 0 ≡ 4 → ⊥) → a ≡ leafIn code store frame (at + 2) → 4294967296 ≤ a
+  pub simply-worked : {at a b v : ℕ} → at < 18993 → 5 ≤ getD code at 0 → a ≡ leafIn code store frame (at + 2) → 4294967296 ≤ a
       → b ≡ leafIn code store frame (at + 2 + getD code (at + 1) 0)
       → neededIn (getD code at 0) a b ≡ true
       → v ≡ workWord (getD code at 0) (a % 4294967296) (b % 4294967296)
       → Simple code store frame at v
-  simply-worked {at} {a} {b} h other ea ka eb fits e =
+  simply-worked {at} {a} {b} h two ea ka eb fits e =
+      let other : getD code at 0 ≡ 4 → ⊥ = λ z. absurd (omega arith) in
       let kb : 4294967296 ≤ b = needed-value (getD code at 0) a b fits in
       isSimple
       (λ pool count.

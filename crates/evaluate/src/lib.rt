@@ -110,7 +110,7 @@ fn operator(
     terms::operate(pool, count, kind, a, b)
 }
 
-// An operator on two leaves of the sort that it needs, worked out without a call; 0 where anything else stands
+// An operator on two leaves of the sort that it needs, worked out without a call; 0 where anything else stands, `not` as well
 fn simple(code: &[u32; CODE_WORDS], at: usize, store: &[u64; STORE_WORDS], frame: u32) -> u64
     ensures { λ r. ⌜ Simple (now (code .entry)) (now (store .entry)) frame at r ⌝ }
 {
@@ -122,7 +122,7 @@ fn simple(code: &[u32; CODE_WORDS], at: usize, store: &[u64; STORE_WORDS], frame
     if a < VALUES {
         return 0;
     }
-    if kind == 4 {
+    if kind < 5 {
         return 0;
     }
     let second = at + 2 + wide(code[at + 1]);
