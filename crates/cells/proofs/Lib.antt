@@ -1,1 +1,2 @@
+-- What the walks by hand share. Assumes nothing.
 pub mod Lent

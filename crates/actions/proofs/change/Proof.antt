@@ -1,3 +1,4 @@
+-- `actions::change` meets its contract. Assumes nothing.
 use borrow.Author.Tests.{eq-eqb, ne-eqb}
 use Rattle.actions.specs.Changed.{changeIn}
 use borrow.Author.Needs.{needs}

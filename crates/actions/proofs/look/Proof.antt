@@ -1,3 +1,4 @@
+-- `actions::look` meets its contract. Assumes nothing.
 use borrow.Author.Tests.{eq-eqb, ne-eqb}
 use Rattle.actions.specs.Changed.{lookAt}
 use borrow.Author.Needs.{needs}

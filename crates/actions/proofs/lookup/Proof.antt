@@ -1,3 +1,4 @@
+-- `actions::lookup` meets its contract. Assumes nothing.
 use Rattle.actions.specs.Changed.{lookupIn}
 use Rattle.commands.specs.Stores.{value-errs, value-acts}
 use borrow.Author.Needs.{needs}

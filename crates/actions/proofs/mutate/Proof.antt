@@ -1,3 +1,4 @@
+-- `actions::mutate` meets its contract. Assumes nothing.
 use mathlib.Core.Path.{refl}
 use Rattle.actions.specs.Changed.{mutateIn, mutateSecond, changed-to, operand-errs, operand-gives, unchanged}
 use borrow.Author.Needs.{needs}

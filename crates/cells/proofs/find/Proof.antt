@@ -1,3 +1,4 @@
+-- `cells::find` meets its contract. Assumes nothing.
 use mathlib.Core.Path.{_≡_, refl, sym, _∙_}
 use lib.ListN.{length}
 use Rattle.cells.specs.Putting.{found-cell, found-none}

@@ -1,3 +1,4 @@
+-- `cells::is_at` meets its contract. Assumes nothing.
 use borrow.Author.Tests.{eq-eqb, ne-eqb}
 use Rattle.gil.specs.Machine.{isAt}
 use Rattle.cells.proofs.is_at.Statement.{statement}

@@ -1,3 +1,4 @@
+-- `cells::place_in` meets its contract. Assumes nothing.
 use mathlib.Core.Path.{_≡_}
 use lib.ListN.{length}
 use Rattle.cells.specs.Putting.{found-used}

@@ -1,3 +1,4 @@
+-- `cells::put` meets its contract. Assumes nothing.
 use borrow.Author.Needs.{needs}
 use Rattle.cells.proofs.put.Statement.{statement}
 use Rattle.cells.proofs.put.Tie as tie

@@ -1,3 +1,4 @@
+-- `cells::put_at` meets its contract. Assumes nothing.
 use mathlib.Core.Path.{_≡_, refl, sym, _∙_, ap}
 use Prim.Native.Nat.{ℕ, _<_}
 use lib.ListN.{length}

@@ -1,3 +1,4 @@
+-- `cells::used` meets its contract. Assumes nothing.
 use native.Mathlib.Omega.{arith}
 use Rattle.cells.proofs.used.Statement.{statement}
 use Rattle.cells.proofs.used.Tie as tie

@@ -1,3 +1,4 @@
+-- `commands::act` meets its contract. Assumes nothing.
 use mathlib.Core.Path.{ap}
 use borrow.Author.Tests.{eq-eqb, ne-eqb}
 use Rattle.commands.specs.declared.Next.{Next}

@@ -1,3 +1,4 @@
+-- `commands::assign` meets its contract. Assumes nothing.
 use Rattle.commands.specs.Stepped.{assignIn}
 use borrow.Author.Needs.{needs}
 use Rattle.commands.proofs.assign.Statement.{statement}

@@ -1,3 +1,4 @@
+-- `commands::command_at` meets its contract. Assumes nothing.
 use borrow.Author.Tests.{lt-ltb, le-ltb}
 use Rattle.commands.specs.Stepped.{commandIn}
 use borrow.Author.Needs.{needs}

@@ -1,3 +1,4 @@
+-- `commands::enter` meets its contract. Assumes nothing.
 use borrow.Author.Tests.{le-leb}
 use Rattle.commands.specs.Stepped.{enterIn}
 use Rattle.commands.specs.Stores.{entered, frame-chain}

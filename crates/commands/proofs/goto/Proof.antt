@@ -1,3 +1,4 @@
+-- `commands::goto` meets its contract. Assumes nothing.
 use Rattle.commands.specs.Stepped.{gotoIn}
 use borrow.Author.Needs.{needs}
 use Rattle.commands.proofs.goto.Statement.{statement}

@@ -1,3 +1,4 @@
+-- `commands::input` meets its contract. Assumes nothing.
 use Rattle.terms.specs.Laws.{freshIn}
 use borrow.Author.Needs.{needs}
 use Rattle.commands.proofs.input.Statement.{statement}

@@ -1,3 +1,4 @@
+-- `commands::jump` meets its contract. Assumes nothing.
 use borrow.Author.Tests.{eq-eqb, ne-eqb}
 use Rattle.commands.specs.Stepped.{jumpIn}
 use borrow.Author.Needs.{needs}

@@ -1,3 +1,4 @@
+-- `commands::leave` meets its contract. Assumes nothing.
 use borrow.Author.Tests.{eq-eqb}
 use Rattle.commands.specs.Stepped.{leaveIn}
 use Rattle.commands.specs.Stores.{left}

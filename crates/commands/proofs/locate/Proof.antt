@@ -1,3 +1,4 @@
+-- `commands::locate` meets its contract. Assumes nothing.
 use borrow.Author.Tests.{le-leb, lt-leb}
 use Rattle.commands.specs.Stepped.{locateIn}
 use borrow.Author.Needs.{needs}

@@ -1,3 +1,4 @@
+-- `commands::onward` meets its contract. Assumes nothing.
 use Rattle.commands.specs.Stepped.{onwardIn}
 use borrow.Author.Needs.{needs}
 use Rattle.commands.proofs.onward.Statement.{statement}

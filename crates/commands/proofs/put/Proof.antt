@@ -1,3 +1,4 @@
+-- `commands::put` meets its contract. Assumes nothing.
 use borrow.Author.Tests.{lt-ltb, le-ltb}
 use Rattle.commands.specs.Stepped.{putIn}
 use borrow.Author.Needs.{needs}

@@ -1,3 +1,4 @@
+-- `commands::start` meets its contract. Assumes nothing.
 use Rattle.commands.specs.Stepped.{startIn}
 use borrow.Author.Needs.{needs}
 use Rattle.commands.proofs.start.Statement.{statement}

@@ -1,3 +1,4 @@
+-- `commands::start_store` meets its contract. Assumes nothing.
 use mathlib.Core.Path.{refl}
 use Rattle.commands.specs.Stepped.{startStore}
 use borrow.Author.Needs.{needs}

@@ -1,3 +1,4 @@
+-- `commands::step` meets its contract. Assumes nothing.
 use mathlib.Core.Path.{ap}
 use borrow.Author.Tests.{ne-eqb}
 use Rattle.commands.specs.Stepped.{Acted, afterActed, stepIn}

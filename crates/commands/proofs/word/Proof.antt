@@ -1,3 +1,4 @@
+-- `commands::word` meets its contract. Assumes nothing.
 use borrow.Author.Tests.{lt-ltb, le-ltb}
 use Rattle.commands.specs.Stepped.{wordIn}
 use borrow.Author.Needs.{needs}

@@ -1,3 +1,4 @@
+-- `evaluate::operand` and `evaluate::operator` meet their contracts. Assumes nothing.
 use native.Mathlib.Omega.{arith}
 use borrow.Author.Tests.{eq-eqb, ne-eqb}
 use Rattle.evaluate.specs.Evaluated.{operandIn, operandBy}

@@ -1,3 +1,4 @@
+-- `evaluate::evaluate` meets its contract. Assumes nothing.
 use borrow.Author.Tests.{eq-eqb, ne-eqb}
 use Rattle.evaluate.specs.Evaluated.{evaluateIn, operandIn, operandBy}
 use borrow.Author.Needs.{needs}

@@ -1,3 +1,4 @@
+-- `evaluate::leaf` meets its contract. Assumes nothing.
 use borrow.Author.Tests.{ne-eqb, lt-ltb, le-ltb}
 use Rattle.evaluate.specs.Evaluated.{leafIn, leafOf}
 use borrow.Author.Needs.{needs}

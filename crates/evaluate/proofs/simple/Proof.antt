@@ -1,3 +1,4 @@
+-- `evaluate::simple` meets its contract. Assumes nothing.
 use mathlib.Core.Path.{sym, _∙_}
 use Rattle.evaluate.specs.Evaluated.{notSimple}
 use Rattle.evaluate.specs.Steps.{simply-worked}

@@ -1,3 +1,4 @@
+-- `evaluate::variable` meets its contract. Assumes nothing.
 use borrow.Author.Tests.{eq-eqb, ne-eqb, lt-ltb, le-ltb}
 use Rattle.evaluate.specs.Evaluated.{variableIn}
 use borrow.Author.Needs.{needs}

@@ -1,3 +1,4 @@
+-- `fields::capped` meets its contract. Assumes nothing.
 use borrow.Author.Tests.{lt-ltb, le-ltb}
 use Rattle.fields.specs.Forms as forms
 use borrow.Author.Needs.{needs}

@@ -1,3 +1,4 @@
+-- `fields::op_size` meets its contract. Assumes nothing.
 use native.Mathlib.Omega.{arith}
 use mathlib.Core.Path.{refl}
 use borrow.Author.Tests.{ne-eqb}

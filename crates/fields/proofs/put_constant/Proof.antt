@@ -1,3 +1,4 @@
+-- `fields::put_constant` meets its contract. Assumes nothing.
 use mathlib.Core.Path.{sym, _∙_}
 use Rattle.gil.specs.Text.{bytes}
 use Rattle.writing.specs.Written.{join, wrote-as}

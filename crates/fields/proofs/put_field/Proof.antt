@@ -1,3 +1,4 @@
+-- `fields::put_field` meets its contract. Assumes nothing.
 use borrow.Author.Tests.{lt-ltb, le-ltb}
 use Rattle.gil.specs.Text.{bytes}
 use Rattle.fields.specs.Forms.{fieldForm}

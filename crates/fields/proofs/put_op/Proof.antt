@@ -1,3 +1,4 @@
+-- `fields::put_op` meets its contract. Assumes nothing.
 use borrow.Author.Tests.{ne-eqb}
 use Rattle.gil.specs.Text.{bytes}
 use Rattle.fields.specs.Forms.{opForm}

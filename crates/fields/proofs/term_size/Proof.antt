@@ -1,3 +1,4 @@
+-- `fields::term_size` meets its contract. Assumes nothing.
 use Rattle.fields.specs.Steps.{size-by}
 use borrow.Author.Needs.{needs}
 use Rattle.fields.proofs.term_size.Statement.{statement}

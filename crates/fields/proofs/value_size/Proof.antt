@@ -1,3 +1,4 @@
+-- `fields::value_size` meets its contract. Assumes nothing.
 use native.Mathlib.Omega.{arith}
 use borrow.Author.Tests.{lt-ltb, le-ltb}
 use Rattle.fields.specs.Forms.{valueSize}

@@ -1,3 +1,4 @@
+-- `locate::condition_holds` meets its contract. Assumes nothing.
 use Rattle.locate.specs.Located.{conditionHolds}
 use borrow.Author.Needs.{needs}
 use Rattle.locate.proofs.condition_holds.Statement.{statement}

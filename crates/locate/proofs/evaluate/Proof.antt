@@ -1,3 +1,4 @@
+-- `locate::evaluate` meets its contract. Assumes nothing.
 use Prim.Native.Nat.{ℕ, _≤_, _-_}
 use lib.ListN.{set}
 use mathlib.Core.Path.{_≡_, _∙_, ap}

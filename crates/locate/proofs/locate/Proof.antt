@@ -1,3 +1,4 @@
+-- `locate::locate` meets its contract. Assumes nothing.
 use Rattle.locate.specs.Located.{locate-by}
 use borrow.Author.Needs.{needs}
 use Rattle.locate.proofs.locate.Statement.{statement}

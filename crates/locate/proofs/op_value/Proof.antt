@@ -1,3 +1,4 @@
+-- `locate::op_value` meets its contract. Assumes nothing.
 use borrow.Author.Tests.{lt-ltb, le-ltb, eq-eqb, ne-eqb}
 use Rattle.locate.specs.Located.{opValue}
 use borrow.Author.Needs.{needs}

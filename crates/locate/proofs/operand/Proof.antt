@@ -1,3 +1,4 @@
+-- `locate::operand` meets its contract. Assumes nothing.
 use borrow.Author.Tests.{lt-ltb, le-ltb}
 use Rattle.locate.specs.Located.{operandWord}
 use borrow.Author.Needs.{needs}

@@ -1,3 +1,4 @@
+-- `locate::term_value` meets its contract. Assumes nothing.
 use borrow.Author.Tests.{eq-eqb, ne-eqb}
 use Rattle.locate.specs.Located.{termValue, termOf}
 use borrow.Author.Needs.{needs}

@@ -1,3 +1,4 @@
+-- `locate::value_word` meets its contract. Assumes nothing.
 use borrow.Author.Tests.{lt-ltb, le-ltb}
 use Rattle.locate.specs.Located.{valueWord}
 use borrow.Author.Needs.{needs}

@@ -1,3 +1,4 @@
+-- `path::changes` meets its contract. Assumes nothing.
 use borrow.Author.Tests.{lt-ltb, le-ltb}
 use Rattle.path.specs.Followed.{changesIn}
 use Rattle.path.proofs.changes.Statement.{statement}

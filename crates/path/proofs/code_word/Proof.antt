@@ -1,3 +1,4 @@
+-- `path::code_word` meets its contract. Assumes nothing.
 use borrow.Author.Tests.{lt-ltb, le-ltb}
 use Rattle.commands.specs.Stepped.{codeWord}
 use borrow.Author.Needs.{needs}

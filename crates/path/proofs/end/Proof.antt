@@ -1,3 +1,4 @@
+-- `path::end` meets its contract. Assumes nothing.
 use Rattle.path.specs.Followed.{endOf}
 use borrow.Author.Needs.{needs}
 use Rattle.path.proofs.end.Statement.{statement}

@@ -1,3 +1,4 @@
+-- `path::ends` meets its contract. Assumes nothing.
 use Rattle.path.specs.Followed.{endedIn}
 use borrow.Author.Needs.{needs}
 use Rattle.path.proofs.ends.Statement.{statement}

@@ -1,3 +1,4 @@
+-- `path::head` meets its contract. Assumes nothing.
 use Rattle.path.specs.Followed.{headIn}
 use borrow.Author.Needs.{needs}
 use Rattle.path.proofs.head.Statement.{statement}

@@ -1,3 +1,4 @@
+-- `path::still` meets its contract. Assumes nothing.
 use borrow.Author.Tests.{eq-eqb, ne-eqb}
 use Rattle.path.specs.Followed.{stillIn}
 use borrow.Author.Needs.{needs}

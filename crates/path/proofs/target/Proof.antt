@@ -1,3 +1,4 @@
+-- `path::target` meets its contract. Assumes nothing.
 use mathlib.Core.Path.{_≡_, refl}
 use mathlib.Core.List.{[], _∷_}
 use types.Run.{OneOf}

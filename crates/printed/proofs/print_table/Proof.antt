@@ -1,3 +1,4 @@
+-- `printed::print_table` meets its contract. Assumes nothing.
 use mathlib.Core.Path.{refl}
 use Rattle.printed.specs.Comes.{prints-refusal, prints-table}
 use borrow.Author.Needs.{needs}

@@ -1,3 +1,4 @@
+-- `printing::put_condition` meets its contract. Assumes nothing.
 use Rattle.writing.specs.Written.{join}
 use Rattle.printing.specs.Forms.{conditionForm}
 use borrow.Author.Needs.{needs}

@@ -1,3 +1,4 @@
+-- `printing::put_conditions` meets its contract. Assumes nothing.
 use borrow.Author.Tests.{eq-eqb, ne-eqb}
 use Rattle.gil.specs.Text.{bytes}
 use Rattle.writing.specs.Written.{join}

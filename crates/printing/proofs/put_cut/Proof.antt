@@ -1,3 +1,4 @@
+-- `printing::put_cut` meets its contract. Assumes nothing.
 use borrow.Author.Tests.{ne-eqb}
 use Rattle.gil.specs.Text.{bytes}
 use Rattle.printing.specs.Forms.{cutForm}

@@ -1,3 +1,4 @@
+-- `printing::put_name` meets its contract. Assumes nothing.
 use Rattle.writing.specs.Written.{wrote-none}
 use borrow.Author.Tests.{lt-ltb, le-ltb}
 use Rattle.printing.specs.Forms.{nameForm}

@@ -1,3 +1,4 @@
+-- `printing::put_row` meets its contract. Assumes nothing.
 use Rattle.gil.specs.Printed.{lineEnd}
 use Rattle.writing.specs.Written.{join}
 use Rattle.printing.specs.Forms.{rowForm}

@@ -1,3 +1,4 @@
+-- `printing::put_start` meets its contract. Assumes nothing.
 use Rattle.writing.specs.Written.{join}
 use Rattle.printing.specs.Forms.{startForm}
 use borrow.Author.Needs.{needs}

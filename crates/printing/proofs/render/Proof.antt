@@ -1,3 +1,4 @@
+-- `printing::render` meets its contract. Assumes nothing.
 use Rattle.gil.specs.Text.{bytes}
 use Rattle.gil.specs.Printed.{lineEnd, heading}
 use Rattle.printing.specs.Steps.{table-by}

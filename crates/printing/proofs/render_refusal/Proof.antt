@@ -1,3 +1,4 @@
+-- `printing::render_refusal` meets its contract. Assumes nothing.
 use Rattle.gil.specs.Text.{bytes}
 use Rattle.gil.specs.Printed.{lineEnd, refusalLine}
 use Rattle.writing.specs.Written.{join, front}

@@ -1,3 +1,4 @@
+-- `printing::row_word` meets its contract. Assumes nothing.
 use Rattle.printing.specs.Forms.{rowWord}
 use borrow.Author.Needs.{needs}
 use Rattle.printing.proofs.row_word.Statement.{statement}

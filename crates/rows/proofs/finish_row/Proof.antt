@@ -1,3 +1,4 @@
+-- `rows::finish_row` meets its contract. Assumes nothing.
 use mathlib.Core.List.{List}
 use Prim.Native.Nat.{ℕ, _+_, _*_}
 use Rattle.rows.specs.Stored.{withRow, withRowAt}

@@ -1,3 +1,4 @@
+-- `rows::write_cells` meets its contract. Assumes nothing.
 use Rattle.rows.specs.Stored.{noCell, putWords, wordsFrom, valueOf, cellOf, cellIn, withCells}
 use native.Mathlib.Omega.{arith}
 use Prim.Native.Nat.{_+_, _*_, _-_, _≤_, _<_}

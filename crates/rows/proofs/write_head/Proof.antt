@@ -1,3 +1,4 @@
+-- `rows::write_head` meets its contract. Assumes nothing.
 use Rattle.rows.specs.Stored.{headOf}
 use Rattle.rows.specs.Turns.{five-pairs}
 use borrow.Author.Needs.{needs}

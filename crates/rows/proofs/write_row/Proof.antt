@@ -1,3 +1,4 @@
+-- `rows::write_row` meets its contract. Assumes nothing.
 use Rattle.rows.specs.Stored.{withRow}
 use borrow.Author.Needs.{needs}
 use Rattle.rows.proofs.write_row.Statement.{statement}

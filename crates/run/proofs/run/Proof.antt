@@ -1,3 +1,4 @@
+-- `run::run` meets its contract. Assumes nothing.
 use lib.ListN.{drop, length-append, length-drop}
 use Rattle.run.specs.Ran.{answers}
 use native.Mathlib.Omega.{arith}

@@ -1,3 +1,4 @@
+-- `table::print` meets its contract. Assumes nothing.
 use Rattle.io.proofs.Counting.{front}
 use Rattle.printed.specs.Promise.{prints-room}
 use borrow.Author.Needs.{needs}

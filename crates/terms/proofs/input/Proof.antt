@@ -1,3 +1,4 @@
+-- `terms::input` meets its contract. Assumes nothing.
 use Prim.Native.Nat.{_+_}
 use mathlib.Core.Path.{ap}
 use Rattle.terms.specs.Made.{Did, did, inputIn, madeIn}

@@ -1,3 +1,4 @@
+-- `terms::make` meets its contract. Assumes nothing.
 use borrow.Author.Tests.{le-leb, lt-leb}
 use Rattle.terms.specs.Made.{madeIn, poolWith}
 use borrow.Author.Needs.{needs}

@@ -1,3 +1,4 @@
+-- `terms::needed` meets its contract. Assumes nothing.
 use borrow.Author.Tests.{eq-eqb, ne-eqb}
 use Rattle.terms.specs.Made.{neededIn}
 use borrow.Author.Needs.{needs}

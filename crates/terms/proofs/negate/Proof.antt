@@ -1,3 +1,4 @@
+-- `terms::negate` meets its contract. Assumes nothing.
 use Prim.Native.Nat.{_+_}
 use mathlib.Core.Path.{ap}
 use borrow.Author.Tests.{eq-eqb, ne-eqb, lt-ltb, le-ltb}

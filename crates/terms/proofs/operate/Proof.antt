@@ -1,3 +1,4 @@
+-- `terms::operate` meets its contract. Assumes nothing.
 use borrow.Author.Tests.{eq-eqb, ne-eqb, lt-ltb, le-ltb}
 use Rattle.terms.specs.Made.{operateIn}
 use mathlib.Core.Path.{sym, _∙_}

@@ -1,3 +1,4 @@
+-- `terms::put_node` meets its contract. Assumes nothing.
 use Rattle.terms.specs.Stores.{five-words}
 use borrow.Author.Needs.{needs}
 use Rattle.terms.proofs.put_node.Statement.{statement}

@@ -1,3 +1,4 @@
+-- `terms::put_word` meets its contract. Assumes nothing.
 use native.Mathlib.Omega.{arith}
 use native.Mathlib.Numerals.{towards-suc}
 use lib.ListN.{length-set}

@@ -1,3 +1,4 @@
+-- `values::either` meets its contract. Assumes nothing.
 use borrow.Author.Tests.{eq-eqb, ne-eqb}
 use Rattle.values.specs.Packed.{eitherWord}
 use borrow.Author.Needs.{needs}

@@ -1,3 +1,4 @@
+-- `values::fit` meets its contract. Assumes nothing.
 use borrow.Author.Tests.{eq-eqb, ne-eqb}
 use Rattle.values.specs.Packed.{fitWord}
 use borrow.Author.Needs.{needs}

@@ -1,3 +1,4 @@
+-- `values::needed` meets its contract. Assumes nothing.
 use borrow.Author.Tests.{lt-ltb, le-ltb}
 use Rattle.values.specs.Packed.{neededWord}
 use Rattle.values.proofs.needed.Statement.{statement}

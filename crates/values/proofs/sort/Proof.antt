@@ -1,3 +1,4 @@
+-- `values::sort` meets its contract. Assumes nothing.
 use borrow.Author.Tests.{lt-ltb, le-ltb}
 use Rattle.values.specs.Packed.{sortWord}
 use borrow.Author.Needs.{needs}

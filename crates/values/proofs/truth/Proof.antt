@@ -1,3 +1,4 @@
+-- `values::truth` meets its contract. Assumes nothing.
 use Rattle.values.specs.Packed.{truthWord}
 use borrow.Author.Needs.{needs}
 use Rattle.values.proofs.truth.Statement.{statement}

@@ -1,3 +1,4 @@
+-- `walk::condition` meets its contract. Assumes nothing.
 use Prim.Native.Nat.{ℕ, _+_, _%_}
 use mathlib.Core.Path.{_∙_, ap}
 use Rattle.walk.specs.Walked.{conditionOn}

@@ -1,3 +1,4 @@
+-- `walk::explore` meets its contract. Assumes nothing.
 use native.Mathlib.Omega.{arith}
 use mathlib.Core.Path.{_∙_, _≡_}
 use lib.ListN.{length}

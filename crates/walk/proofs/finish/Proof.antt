@@ -1,3 +1,4 @@
+-- `walk::finish` meets its contract. Assumes nothing.
 use Rattle.walk.specs.Turns.{too-many, row-written}
 use borrow.Author.Needs.{needs}
 use Rattle.walk.proofs.finish.Statement.{statement}

@@ -1,3 +1,4 @@
+-- `walk::full` meets its contract. Assumes nothing.
 use Rattle.walk.specs.Walked.{fullIn}
 use Rattle.walk.proofs.full.Statement.{statement}
 use Rattle.walk.proofs.full.Tie as tie

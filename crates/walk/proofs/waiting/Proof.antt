@@ -1,3 +1,4 @@
+-- `walk::waiting` meets its contract. Assumes nothing.
 use Rattle.walk.specs.Walked.{branchIn}
 use borrow.Author.Needs.{needs}
 use Rattle.walk.proofs.waiting.Statement.{statement}

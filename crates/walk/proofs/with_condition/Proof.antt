@@ -1,3 +1,4 @@
+-- `walk::with_condition` meets its contract. Assumes nothing.
 use borrow.Author.Tests.{lt-ltb, le-ltb}
 use Rattle.walk.specs.Walked.{conditionsWith}
 use borrow.Author.Needs.{needs}

@@ -1,3 +1,4 @@
+-- `words::put_word` meets its contract. Assumes nothing.
 use native.Mathlib.Omega.{arith}
 use mathlib.Core.Path.{sym}
 use lib.ListN.{length-set}

@@ -1,3 +1,4 @@
+-- `writing::digits_size` meets its contract. Assumes nothing.
 use native.Mathlib.Omega.{arith}
 use mathlib.Core.Path.{sym, ap}
 use lib.ListN.{length}

@@ -1,3 +1,4 @@
+-- `writing::put_digits` meets its contract. Assumes nothing.
 use native.Mathlib.Omega.{arith}
 use mathlib.Core.Path.{sym, _∙_}
 use Rattle.writing.specs.Written.{join, wrote-as}

@@ -1,3 +1,4 @@
+-- `writing::at_most` meets its contract. Assumes nothing.
 use native.Mathlib.Omega.{arith}
 use borrow.Author.Tests.{lt-ltb, le-ltb}
 use Rattle.writing.specs.Written.{atMost}

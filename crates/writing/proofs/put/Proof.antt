@@ -1,3 +1,4 @@
+-- `writing::put` meets its contract. Assumes nothing.
 use Rattle.writing.specs.Written.{wrote-in, wrote-out}
 use borrow.Author.Needs.{needs}
 use Rattle.writing.proofs.put.Statement.{statement}

@@ -1,3 +1,4 @@
+-- `writing::put_decimal` meets its contract. Assumes nothing.
 use Rattle.gil.specs.Printed.{decimal}
 use borrow.Author.Needs.{needs}
 use Rattle.writing.proofs.put_decimal.Statement.{statement}

@@ -1,3 +1,4 @@
+-- `writing::put_part` meets its contract. Assumes nothing.
 use mathlib.Core.Path.{sym}
 use Rattle.writing.specs.Written.{wrote-as, wrote-none}
 use Rattle.writing.specs.Steps.{part-past, part-short, part-whole}
