@@ -205,12 +205,6 @@ pub fn grown_at(f: Found, held: usize, l: Location, q: u32) -> usize
     if held < CELLS { held + 1 } else { CELLS + 1 }
 }
 
-pub fn grown(cells: [Cell; CELLS], held: usize, l: Location, q: u32) -> usize
-    ensures { λ r. ⌜ (held ≤ 32 → r ≡ length (putCell (l .0) q (term 0) (heldIn held cells))) ⌝ }
-{
-    grown_at(place_of(cells, held, l, q), held, l, q)
-}
-
 // The last cell that moves where the cell is put: none but its own, or all those in use behind its place
 fn last(f: Found, held: usize, l: Location, q: u32) -> usize
     ensures { λ r. ⌜ r ≡ lastOf (l .0) q held f ⌝ }
@@ -238,12 +232,6 @@ pub fn put_at(
         value: v,
     };
     carry(cells, f.place, last(f, held, l, q), cell)
-}
-
-pub fn put(cells: [Cell; CELLS], held: usize, l: Location, q: u32, v: u64) -> [Cell; CELLS]
-    ensures { λ r. ⌜ (held ≤ 32 → length (putCell (l .0) q (term v) (heldIn held cells)) ≤ 32 → heldIn (length (putCell (l .0) q (term v) (heldIn held cells))) r ≡ putCell (l .0) q (term v) (heldIn held cells)) ⌝ }
-{
-    put_at(cells, held, place_of(cells, held, l, q), l, q, v)
 }
 
 // How many cells are in use once a location's are taken out

@@ -10,10 +10,6 @@ ghost use Rattle.gil.specs.Names.{placeOf};
 ghost use Rattle.tokens.specs.Seen.{nameAt};
 ghost use Rattle.names.specs.Tables.{Interned};
 
-pub const ROOM: usize = 33;
-
-pub const COUNT: usize = 32;
-
 pub fn wide(x: u32) -> usize
     ensures { λ r. ⌜ r ≡ x ⌝ }
 {

@@ -1,5 +1,6 @@
 // "The printed table" of a text, whole: explored with 1,024 steps and 16 branches, and printed into lent memory.
 ghost use Rattle.printed.specs.Promise.{Prints};
+use code::CODE_WORDS;
 
 // The text's table, or the line of its refusal: as much of it as `out` has room for stands at the front, and how many bytes that is.
 // 262,144 bytes are always enough.
@@ -12,7 +13,7 @@ pub fn print_table(text: &[u8], out: &mut [u8]) -> usize
     if refusal != 0 {
         return printing::render_refusal(refusal, out);
     }
-    let mut code = [0u32; 18994];
+    let mut code = [0u32; CODE_WORDS];
     let mut names = [0u32; 33];
     programs::verdict::read_program(text, &mut code, &mut names);
     printing::render(text, &names, &table, &pool, out)

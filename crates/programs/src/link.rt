@@ -4,6 +4,7 @@ ghost use mathlib.Core.Path.{_≡_};
 ghost use Prim.Native.Nat.{_≤_, _<_};
 ghost use lib.ListN.{length, getD};
 ghost use Rattle.programs.specs.Linked.{Links, calleeIn, linkCommand};
+use code::CODE_WORDS;
 
 // the place of name k of a table in the text, or 0 past the table
 fn place_of(calls: &[u32; 33], k: u32) -> u32
@@ -27,7 +28,7 @@ fn callee(text: &[u8], k: u32, calls: &[u32; 33], procs: &[u32; 33], n: usize) -
 
 fn link_command(
     text: &[u8],
-    code: &mut [u32; 18994],
+    code: &mut [u32; CODE_WORDS],
     i: usize,
     calls: &[u32; 33],
     procs: &[u32; 33],
@@ -46,7 +47,7 @@ fn link_command(
 // links the commands of all procedures; `calls` and `procs` are the tables of callees and of procedures, n of these
 pub fn link(
     text: &[u8],
-    code: &mut [u32; 18994],
+    code: &mut [u32; CODE_WORDS],
     commands: usize,
     calls: &[u32; 33],
     procs: &[u32; 33],

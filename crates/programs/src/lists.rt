@@ -7,6 +7,7 @@ ghost use Rattle.reader.specs.Goes.{Goes};
 ghost use Rattle.gil.specs.Reading.{commands, procedure, procedures};
 ghost use Rattle.programs.specs.Lists.{Lists};
 ghost use Rattle.programs.specs.Procedures.{Declares, Tells};
+use code::CODE_WORDS;
 use reader::commands;
 use reader::forms;
 use reader::store;
@@ -38,7 +39,7 @@ fn body_of(
     vars: &mut [u32; 33],
     props: &mut [u32; 33],
     calls: &mut [u32; 33],
-    code: &mut [u32; 18994],
+    code: &mut [u32; CODE_WORDS],
     out: usize,
 ) -> Body
     requires { do ⌜ ((← ⟦text.len()⟧) ≤ 16384) × (out ≤ 18995) × (first ≤ 300000000) ⌝ }
@@ -94,7 +95,7 @@ fn procedure_of(
     props: &mut [u32; 33],
     calls: &mut [u32; 33],
     procs: &mut [u32; 33],
-    code: &mut [u32; 18994],
+    code: &mut [u32; CODE_WORDS],
     out: usize,
 ) -> Declared
     requires { do ⌜ ((← ⟦text.len()⟧) ≤ 16384) × (out ≤ 18995) × (first ≤ 300000000) ⌝ }
@@ -146,7 +147,7 @@ pub fn procedures_of(
     props: &mut [u32; 33],
     calls: &mut [u32; 33],
     procs: &mut [u32; 33],
-    code: &mut [u32; 18994],
+    code: &mut [u32; CODE_WORDS],
 ) -> Tally
     requires { do ⌜ (← ⟦text.len()⟧) ≤ 16384 ⌝ }
     ensures { λ r. ⌜ Goes (now (text .entry)) 1 (Tells (now (text .entry)) (now (props .entry)) (now (props .exit)) (now (calls .entry)) (now (calls .exit)) (now (procs .entry)) (now (procs .exit)) (now (code .entry)) (now (code .exit)) (r .procs) (r .commands) (r .wide) (r .past) (r .unended)) (procedures (now (text .entry))) (r .next) ⌝ }

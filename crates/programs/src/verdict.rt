@@ -18,6 +18,7 @@ ghost use Rattle.programs.specs.Reads.{Reads, Finishes};
 use crate::link;
 use crate::lists;
 use crate::lists::Tally;
+use code::CODE_WORDS;
 
 // 5: "over 16 procedures, 512 commands in all, 16 variables in a procedure (parameter included), or 32 distinct properties"
 fn over_limits(procs: usize, commands: usize, wide: bool, properties: u32) -> bool
@@ -99,7 +100,7 @@ fn refusal(text: &[u8], t: Tally, props: &[u32; 33], calls: &[u32; 33], procs: &
 // The limits are those of an accepted text.
 fn finish(
     text: &[u8],
-    code: &mut [u32; 18994],
+    code: &mut [u32; CODE_WORDS],
     commands: usize,
     calls: &[u32; 33],
     procs: &[u32; 33],
@@ -121,7 +122,7 @@ fn finish(
 
 // Reads a text into the words of its program, and its procedures' names into a table; both are lent zeroed. The answer is the text's
 // refusal, or 0.
-pub fn read_program(text: &[u8], code: &mut [u32; 18994], names: &mut [u32; 33]) -> u32
+pub fn read_program(text: &[u8], code: &mut [u32; CODE_WORDS], names: &mut [u32; 33]) -> u32
     ensures { λ r. ⌜ (now (code .entry) ≡ replicate 18994 0 → now (names .entry) ≡ replicate 33 0 → Reads (now (text .entry)) (now (code .exit)) (now (names .exit)) r) ⌝ }
 {
     if text.len() > 16384 {

@@ -15,6 +15,7 @@ use crate::exprs;
 use crate::exprs::Got;
 use crate::forms;
 use crate::store;
+use code::CODE_WORDS;
 use tokens::lexemes;
 use tokens::words;
 
@@ -37,7 +38,13 @@ pub struct Step {
 }
 
 // `v := e`
-fn plain(text: &[u8], at: usize, vars: &mut [u32; 33], code: &mut [u32; 18994], out: usize) -> Form
+fn plain(
+    text: &[u8],
+    at: usize,
+    vars: &mut [u32; 33],
+    code: &mut [u32; CODE_WORDS],
+    out: usize,
+) -> Form
     requires { do ⌜ ((← ⟦text.len()⟧) ≤ 16384) × (out ≤ 18995) ⌝ }
     ensures { λ r. ⌜ ((v : Name) (p k : List ℕ) → Goes (now (text .entry)) (suc at) (Sets (now (text .entry)) v (now (vars .entry)) (now (vars .exit)) p p k k (now (code .entry)) (now (code .exit)) out (r .out) (r .kind) (r .place) (r .other) (r .second)) (assignment v (now (text .entry)) at) (r .next)) × (r .out ≤ 18995) ⌝ }
 {
@@ -59,7 +66,7 @@ fn call_of(
     callee: u32,
     vars: &mut [u32; 33],
     calls: &mut [u32; 33],
-    code: &mut [u32; 18994],
+    code: &mut [u32; CODE_WORDS],
     out: usize,
 ) -> Form
     requires { do ⌜ ((← ⟦text.len()⟧) ≤ 16384) × (out ≤ 18995) ⌝ }
@@ -84,7 +91,7 @@ fn lookup_of(
     at: usize,
     vars: &mut [u32; 33],
     props: &mut [u32; 33],
-    code: &mut [u32; 18994],
+    code: &mut [u32; CODE_WORDS],
     out: usize,
 ) -> Form
     requires { do ⌜ ((← ⟦text.len()⟧) ≤ 16384) × (out ≤ 18995) ⌝ }
@@ -113,7 +120,7 @@ fn mutate_of(
     at: usize,
     vars: &mut [u32; 33],
     props: &mut [u32; 33],
-    code: &mut [u32; 18994],
+    code: &mut [u32; CODE_WORDS],
     out: usize,
 ) -> Form
     requires { do ⌜ ((← ⟦text.len()⟧) ≤ 16384) × (out ≤ 18995) ⌝ }
@@ -143,7 +150,7 @@ fn dispose_of(
     text: &[u8],
     at: usize,
     vars: &mut [u32; 33],
-    code: &mut [u32; 18994],
+    code: &mut [u32; CODE_WORDS],
     out: usize,
 ) -> Form
     requires { do ⌜ ((← ⟦text.len()⟧) ≤ 16384) × (out ≤ 18995) ⌝ }
@@ -167,7 +174,7 @@ fn named_form(
     at: usize,
     vars: &mut [u32; 33],
     calls: &mut [u32; 33],
-    code: &mut [u32; 18994],
+    code: &mut [u32; CODE_WORDS],
     out: usize,
 ) -> Form
     requires { do ⌜ ((← ⟦text.len()⟧) ≤ 16384) × (out ≤ 18995) ⌝ }
@@ -196,7 +203,7 @@ fn value(
     vars: &mut [u32; 33],
     props: &mut [u32; 33],
     calls: &mut [u32; 33],
-    code: &mut [u32; 18994],
+    code: &mut [u32; CODE_WORDS],
     out: usize,
 ) -> Form
     requires { do ⌜ ((← ⟦text.len()⟧) ≤ 16384) × (out ≤ 18995) ⌝ }
@@ -238,7 +245,7 @@ fn setting(
     vars: &mut [u32; 33],
     props: &mut [u32; 33],
     calls: &mut [u32; 33],
-    code: &mut [u32; 18994],
+    code: &mut [u32; CODE_WORDS],
     out: usize,
 ) -> Got
     requires { do ⌜ ((← ⟦text.len()⟧) ≤ 16384) × (out ≤ 18995) ⌝ }
@@ -260,7 +267,7 @@ fn jumping(
     at: usize,
     n: usize,
     vars: &mut [u32; 33],
-    code: &mut [u32; 18994],
+    code: &mut [u32; CODE_WORDS],
     out: usize,
 ) -> Step
     requires { do ⌜ ((← ⟦text.len()⟧) ≤ 16384) × (out ≤ 18995) ⌝ }
@@ -284,7 +291,7 @@ fn ending(
     n: usize,
     kind: u32,
     vars: &mut [u32; 33],
-    code: &mut [u32; 18994],
+    code: &mut [u32; CODE_WORDS],
     out: usize,
 ) -> Step
     requires { do ⌜ ((← ⟦text.len()⟧) ≤ 16384) × (out ≤ 18995) ⌝ }
@@ -308,7 +315,7 @@ fn bare_command(
     vars: &mut [u32; 33],
     props: &mut [u32; 33],
     calls: &mut [u32; 33],
-    code: &mut [u32; 18994],
+    code: &mut [u32; CODE_WORDS],
     out: usize,
 ) -> Step
     requires { do ⌜ ((← ⟦text.len()⟧) ≤ 16384) × (out ≤ 18995) ⌝ }
@@ -355,7 +362,7 @@ pub fn read_command(
     vars: &mut [u32; 33],
     props: &mut [u32; 33],
     calls: &mut [u32; 33],
-    code: &mut [u32; 18994],
+    code: &mut [u32; CODE_WORDS],
     out: usize,
 ) -> Step
     requires { do ⌜ ((← ⟦text.len()⟧) ≤ 16384) × (out ≤ 18995) ⌝ }

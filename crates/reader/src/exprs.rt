@@ -8,6 +8,7 @@ ghost use Rattle.reader.specs.Stores.{putNode, upFrom};
 ghost use Rattle.reader.specs.Effects.{Wrote};
 use crate::forms;
 use crate::store;
+use code::CODE_WORDS;
 use tokens::lexemes;
 use tokens::words;
 
@@ -18,7 +19,7 @@ pub struct Got {
 }
 
 // a leaf's two words
-fn leaf(next: usize, code: &mut [u32; 18994], out: usize, kind: u32, v: u32) -> Got
+fn leaf(next: usize, code: &mut [u32; CODE_WORDS], out: usize, kind: u32, v: u32) -> Got
     requires { ⌜ out ≤ 18995 ⌝ }
     ensures { λ r. ⌜ (r .next ≡ next) × (r .out ≡ upFrom out) × (r .out ≤ 18995) × (now (code .exit) ≡ putNode (now (code .entry)) out kind v) ⌝ }
 {
@@ -35,7 +36,7 @@ pub fn expr(
     at: usize,
     depth: usize,
     vars: &mut [u32; 33],
-    code: &mut [u32; 18994],
+    code: &mut [u32; CODE_WORDS],
     out: usize,
 ) -> Got
     requires { do ⌜ ((← ⟦text.len()⟧) ≤ 16384) × (out ≤ 18995) ⌝ }
@@ -75,7 +76,7 @@ fn operation(
     at: usize,
     depth: usize,
     vars: &mut [u32; 33],
-    code: &mut [u32; 18994],
+    code: &mut [u32; CODE_WORDS],
     out: usize,
 ) -> Got
     requires { do ⌜ ((← ⟦text.len()⟧) ≤ 16384) × (out ≤ 18995) ⌝ }

@@ -2,17 +2,18 @@
 ghost use mathlib.Core.Path.{_≡_};
 ghost use Prim.Native.Nat.{_≤_, _+_, _-_};
 ghost use Rattle.reader.specs.Stores.{put, putNode, putCommand, putProcedure, upFrom};
+use code::CODE_WORDS;
 
-pub fn store(words: &mut [u32; 18994], at: usize, v: u32)
+pub fn store(words: &mut [u32; CODE_WORDS], at: usize, v: u32)
     ensures { λ _. ⌜ now (words .exit) ≡ put (now (words .entry)) at v ⌝ }
 {
-    if at < 18994 {
+    if at < CODE_WORDS {
         words[at] = v;
     }
 }
 
 // a node of an expression: its kind, and its number, variable or first operand's length
-pub fn store_node(words: &mut [u32; 18994], at: usize, kind: u32, v: u32)
+pub fn store_node(words: &mut [u32; CODE_WORDS], at: usize, kind: u32, v: u32)
     requires { ⌜ at ≤ 18995 ⌝ }
     ensures { λ _. ⌜ now (words .exit) ≡ putNode (now (words .entry)) at kind v ⌝ }
 {
@@ -25,7 +26,7 @@ pub fn after_node(at: usize) -> usize
     requires { ⌜ at ≤ 18995 ⌝ }
     ensures { λ r. ⌜ (r ≡ upFrom at) × (r ≤ 18995) ⌝ }
 {
-    if at < 18994 {
+    if at < CODE_WORDS {
         return at + 2;
     }
     at
@@ -44,7 +45,7 @@ pub fn between(at: usize, end: usize) -> u32
 
 // the five words of command n of all, if it is one of the first 512
 pub fn store_command(
-    words: &mut [u32; 18994],
+    words: &mut [u32; CODE_WORDS],
     n: usize,
     kind: u32,
     variable: u32,
@@ -66,7 +67,7 @@ pub fn store_command(
 
 // the three words of procedure n, if it is one of the first 16
 pub fn store_procedure(
-    words: &mut [u32; 18994],
+    words: &mut [u32; CODE_WORDS],
     n: usize,
     first: u32,
     variables: u32,
