@@ -1,7 +1,7 @@
 /*
  * rows.c: explores the handler on standard input and prints its terms and rows.
  *
- *     gcc -std=c99 -Iinclude examples/c/rows.c target/staticlib/libbench.a -o rows
+ *     gcc -std=c99 -Iinclude examples/c/rows.c "$(machine/archive)" -o rows
  *     ./rows < examples/withdraw-by-queue.gil
  *
  * A term is printed once, by its name t0, t1, .. and with its operands by theirs: written out as a tree, `a := (a + a)`
