@@ -219,26 +219,9 @@ each P a b c d e f g h i j l m (suc (suc (suc (suc (suc (suc (suc (suc (suc (suc
 each P a b c d e f g h i j l m (suc (suc (suc (suc (suc (suc (suc (suc (suc (suc (suc zero))))))))))) _ = m
 each P a b c d e f g h i j l m (suc (suc (suc (suc (suc (suc (suc (suc (suc (suc (suc (suc k)))))))))))) q = absurd (omega arith)
 
--- the code's table against the list of the definitions
-abbrev pub lengths : List ℕ
-lengths = 6 ∷ 6 ∷ 4 ∷ 6 ∷ 4 ∷ 5 ∷ 3 ∷ 3 ∷ 2 ∷ 6 ∷ 6 ∷ 7 ∷ []
-
-unfoldable pub table : List ℕ
-table = bytes "ifgoto  return  fail    vanish  true    false   not     and     or      lookup  mutate  dispose "
-
-pub lengths-fit : (k : ℕ) → k < 12 → getD lengths k 0 ≤ 8
-lengths-fit = each (λ k. getD lengths k 0 ≤ 8) (omega arith) (omega arith) (omega arith) (omega arith) (omega arith) (omega arith) (omega arith) (omega arith) (omega arith) (omega arith) (omega arith) (omega arith)
-
-pub lengths-are : (k : ℕ) → k < 12 → getD lengths k 0 ≡ length (reserved k)
-unfolding reserved reservedWords bytes
-lengths-are = each (λ k. getD lengths k 0 ≡ length (reserved k)) refl refl refl refl refl refl refl refl refl refl refl refl
-
-table-at : (k : ℕ) → k < 12 → take (getD lengths k 0) (drop (8 * k) table) ≡ reserved k
-unfolding reserved reservedWords bytes table
-table-at = each (λ k. take (getD lengths k 0) (drop (8 * k) table) ≡ reserved k) refl refl refl refl refl refl refl refl refl refl refl refl
-
-pub table-is : (k : ℕ) → k < 12 → take (8 * k + getD lengths k 0 - 8 * k) (drop (8 * k) table) ≡ reserved k
-table-is k h = let e : 8 * k + getD lengths k 0 - 8 * k ≡ getD lengths k 0 = omega arith in rw e (table-at k h)
+-- a comparison with the word that stands in an arm of the code is one with the reserved word of its number
+pub is-word : {r : Bool} (run : List ℕ) {k : ℕ} (n : ℕ) {w : List ℕ} → r ≡ same run w → k ≡ n → w ≡ reserved n → r ≡ same run (reserved k)
+is-word run n e f g = e ∙ ap (same run) (g ∙ ap reserved (sym f))
 
 -- the first letter and the length leave one reserved word to be looked up
 unfoldable pub startedBy : ℕ → ℕ

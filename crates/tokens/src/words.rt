@@ -18,13 +18,8 @@ pub const I_SITE: u32 = 259;
 
 pub const FAULT: u32 = 260;
 
-// The reserved words are listed in one place: word k stands in the eight bytes from 8 k, and has `LENGTHS[k]` of them; its kind is KEY + k.
+// The reserved words are listed in one place, `is_reserved`; the kind of word k is KEY + k.
 pub const KEYS: usize = 12;
-
-pub const WORDS: [u8; 96] =
-    *b"ifgoto  return  fail    vanish  true    false   not     and     or      lookup  mutate  dispose ";
-
-pub const LENGTHS: [usize; 12] = [6, 6, 4, 6, 4, 5, 3, 3, 2, 6, 6, 7];
 
 pub const KEY: u32 = 272;
 
@@ -75,18 +70,25 @@ pub fn same(a: &[u8], b: &[u8]) -> bool
     true
 }
 
-// the run is reserved word k
+// The run is reserved word k. Each word stands by itself in its arm: one table of all would be copied whole each time it is asked.
 fn is_reserved(run: &[u8], k: usize) -> bool
     requires { ⌜ k < 12 ⌝ }
     ensures { λ r. ⌜ r ≡ Rattle.gil.specs.Text.same (now (run .entry)) (reserved k) ⌝ }
 {
-    let n = LENGTHS[k];
-    if run.len() != n {
-        return false;
+    match k {
+        0 => same(run, b"ifgoto"),
+        1 => same(run, b"return"),
+        2 => same(run, b"fail"),
+        3 => same(run, b"vanish"),
+        4 => same(run, b"true"),
+        5 => same(run, b"false"),
+        6 => same(run, b"not"),
+        7 => same(run, b"and"),
+        8 => same(run, b"or"),
+        9 => same(run, b"lookup"),
+        10 => same(run, b"mutate"),
+        _ => same(run, b"dispose"),
     }
-    let from = 8 * k;
-    let to = from + n;
-    same(run, &WORDS[from..to])
 }
 
 // the first reserved word that starts with a letter, or `KEYS`
