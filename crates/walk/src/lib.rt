@@ -28,7 +28,7 @@ pub struct Budgets {
 }
 
 // A branch that waits: where it stands, the steps and branches so far, and how many cells are in use. Its conditions, its store and its cells
-// go beside it, so that each is copied once.
+// go beside it, the store lent, so that each is copied once.
 pub struct Branch {
     pub control: Control,
     pub steps: u32,
@@ -104,7 +104,7 @@ fn walk(
     budgets: Budgets,
     from: Branch,
     conditions: [u32; 16],
-    begun: [u64; STORE_WORDS],
+    begun: &[u64; STORE_WORDS],
     cells: [Cell; CELLS],
     table: &mut [u8],
     rows: &mut u32,
@@ -112,9 +112,9 @@ fn walk(
     count: &mut u32,
 ) -> u32
     requires { ⌜ from .held ≤ 32 ⌝ }
-    ensures { λ r. ⌜ reached r (now (rows .exit)) (now (table .exit)) (now (pool .exit)) (now (count .exit)) ≡ walksIn (now (code .entry)) budgets from conditions begun cells (now (rows .entry)) (now (table .entry)) (now (pool .entry)) (now (count .entry)) ⌝ }
+    ensures { λ r. ⌜ reached r (now (rows .exit)) (now (table .exit)) (now (pool .exit)) (now (count .exit)) ≡ walksIn (now (code .entry)) budgets from conditions (now (begun .entry)) cells (now (rows .entry)) (now (table .entry)) (now (pool .entry)) (now (count .entry)) ⌝ }
 {
-    let mut store = begun;
+    let mut store = *begun;
     let f = path::follow(
         code,
         from.control,
@@ -146,7 +146,7 @@ fn walk(
         budgets,
         waiting(a, f.steps, deeper, f.held),
         holds,
-        store,
+        &store,
         left,
         table,
         rows,
@@ -162,7 +162,7 @@ fn walk(
         budgets,
         waiting(b, f.steps, deeper, f.held),
         fails,
-        store,
+        &store,
         left,
         table,
         rows,
@@ -197,7 +197,7 @@ pub fn explore(code: &[u32; CODE_WORDS], budgets: Budgets, table: &mut [u8], poo
         budgets,
         begin(code),
         [0; 16],
-        commands::start_store(),
+        &commands::start_store(),
         cells::none(),
         table,
         &mut rows,

@@ -30,14 +30,14 @@ use Rattle.walk.proofs.with_condition.Reads as with-condition-reads
 use Rattle.walk.proofs.+walk.{statement}
 use Rattle.walk.proofs.+walk.Tie.{close}
 
-abbrev μ-walk : Measures 5 walk-kinds.ps ℕ
+abbrev μ-walk : Measures 6 walk-kinds.ps ℕ
 μ-walk κs a = a .1 .0 .branches - a .1 .1 .0 .branches
 
-abbrev walk-at : ℕ → In 5 walk-kinds.ps
-walk-at t = and 5 walk-kinds.ps (is 5 walk-kinds.ps μ-walk t) walk.Pre
+abbrev walk-at : ℕ → In 6 walk-kinds.ps
+walk-at t = and 6 walk-kinds.ps (is 6 walk-kinds.ps μ-walk t) walk.Pre
 
-abbrev walk-below : ℕ → In 5 walk-kinds.ps
-walk-below t = and 5 walk-kinds.ps (falls 5 walk-kinds.ps _<_ μ-walk t) walk.Pre
+abbrev walk-below : ℕ → In 6 walk-kinds.ps
+walk-below t = and 6 walk-kinds.ps (falls 6 walk-kinds.ps _<_ μ-walk t) walk.Pre
 
 no-fork : (x : Next) → OneOf (0 ∷ 1 ∷ 2 ∷ 3 ∷ 4 ∷ []) (tagOf the-type x) → NoFork x
 no-fork (On d) h = isOn
@@ -140,9 +140,9 @@ walk-waiting-requires t c κs = search needs
 -- src/lib.rt:144:9
 walk-walk-requires : (t : ℕ) → walk-lts.Need-walk-requires (claims t) (walk-at t) walk.Post
 unfolding branchIn
-walk-walk-requires t c κs = let e : c .before .before .before .before .waiting .result .branches ≡ c .before .before .before .before .before .before .before .before .before .before .before .before .before .before .before .before .before .before .before .before .before .before .before .before .before .before .before .args .from .branches + 1 = ap (λ (b : Branch). b .branches) (c .before .before .before .before .waiting .ensures) in
-    let h : c .before .before .before .before .waiting .result .held ≡ c .before .before .before .before .before .before .before .before .before .before .before .before .before .before .before .before .before .before .before .before .follow .result .held = ap (λ (b : Branch). b .held) (c .before .before .before .before .waiting .ensures) in
-    (omega (arith, e, c .before .before .before .before .before .before .before .before .before .before .before .before .before .before .before .before .before .before .before .before .before .before .before .before .before .before .before .pre .0, c .before .before .before .before .before .before .before .before .before .if2 .left), rw h (c .before .before .before .before .before .before .before .before .before .before .before .before .before .before .before .before .before .before .before .before .follow .ensures .1 .0))
+walk-walk-requires t c κs = let e : c .before .before .before .before .before .waiting .result .branches ≡ c .before .before .before .before .before .before .before .before .before .before .before .before .before .before .before .before .before .before .before .before .before .before .before .before .before .before .before .before .before .args .from .branches + 1 = ap (λ (b : Branch). b .branches) (c .before .before .before .before .before .waiting .ensures) in
+    let h : c .before .before .before .before .before .waiting .result .held ≡ c .before .before .before .before .before .before .before .before .before .before .before .before .before .before .before .before .before .before .before .before .before .follow .result .held = ap (λ (b : Branch). b .held) (c .before .before .before .before .before .waiting .ensures) in
+    (omega (arith, e, c .before .before .before .before .before .before .before .before .before .before .before .before .before .before .before .before .before .before .before .before .before .before .before .before .before .before .before .before .before .pre .0, c .before .before .before .before .before .before .before .before .before .before .if2 .left), rw h (c .before .before .before .before .before .before .before .before .before .before .before .before .before .before .before .before .before .before .before .before .before .follow .ensures .1 .0))
 
 -- src/lib.rt:157:9
 walk-same-length-6 : (t : ℕ) → walk-lts.Need-same-length-6 (claims t) (walk-at t) walk.Post
@@ -150,11 +150,11 @@ walk-same-length-6 t c = omega (arith, c .before .before .before .before .before
 
 -- src/lib.rt:157:9
 walk-same-length-7 : (t : ℕ) → walk-lts.Need-same-length-7 (claims t) (walk-at t) walk.Post
-walk-same-length-7 t c = omega (arith, c .before .before .before .before .before .walk .kept, c .before .before .before .before .before .before .before .before .before .before .before .before .before .before .before .before .before .before .before .before .before .before .before .before .before .before .follow .kept)
+walk-same-length-7 t c = omega (arith, c .before .before .before .before .before .walk .kept, c .before .before .before .before .before .before .before .before .before .before .before .before .before .before .before .before .before .before .before .before .before .before .before .before .before .before .before .follow .kept)
 
 -- src/lib.rt:157:9
 walk-returns-4 : (t : ℕ) → walk-lts.Need-returns-4 (claims t) (walk-at t) walk.Post
-walk-returns-4 t c = first-refused _ _ _ _ _ _ _ _ _ _ (c .before .before .before .before .before .before .before .before .before .before .before .before .before .before .before .before .before .before .before .before .before .before .before .before .before .before .follow .result) (c .before .before .before .before .before .before .before .before .before .before .before .before .before .before .before .before .before .before .before .before .before .before .before .before .before .before .follow .ensures .0) (c .before .before .before .before .before .before .before .before .before .before .before .before .before .before .before .before .before .before .before .before .before .before .full .ensures) (c .before .before .before .before .before .before .before .before .before .before .before .before .before .before .before .before .before .before .before .before .before .if1 .left) (c .before .before .before .before .before .before .before .before .before .before .before .before .before .before .before .before .before .before .before .next .given .1) (c .before .before .before .before .before .before .before .before .before .before .before .before .before .before .before .if2 .left) (c .before .before .before .before .before .before .before .before .before .before .before .before .condition .ensures) (c .before .before .before .before .before .before .before .before .before .before .before .with-condition .ensures) (c .before .before .before .before .before .before .before .before .before .before .waiting .ensures) (c .before .before .before .before .before .walk .ensures) (c .if3 .taken)
+walk-returns-4 t c = first-refused _ _ _ _ _ _ _ _ _ _ (c .before .before .before .before .before .before .before .before .before .before .before .before .before .before .before .before .before .before .before .before .before .before .before .before .before .before .before .follow .result) (c .before .before .before .before .before .before .before .before .before .before .before .before .before .before .before .before .before .before .before .before .before .before .before .before .before .before .before .follow .ensures .0) (c .before .before .before .before .before .before .before .before .before .before .before .before .before .before .before .before .before .before .before .before .before .before .before .full .ensures) (c .before .before .before .before .before .before .before .before .before .before .before .before .before .before .before .before .before .before .before .before .before .before .if1 .left) (c .before .before .before .before .before .before .before .before .before .before .before .before .before .before .before .before .before .before .before .before .next .given .1) (c .before .before .before .before .before .before .before .before .before .before .before .before .before .before .before .before .if2 .left) (c .before .before .before .before .before .before .before .before .before .before .before .before .before .condition .ensures) (c .before .before .before .before .before .before .before .before .before .before .before .before .with-condition .ensures) (c .before .before .before .before .before .before .before .before .before .before .before .waiting .ensures) (c .before .before .before .before .before .walk .ensures) (c .if3 .taken)
 
 -- src/lib.rt:159:59
 walk-condition-requires-2 : (t : ℕ) → walk-lts.Need-condition-requires-2 (claims t) (walk-at t) walk.Post
@@ -171,21 +171,21 @@ walk-waiting-requires-2 t c κs = search needs
 -- src/lib.rt:160:5
 walk-walk-requires-2 : (t : ℕ) → walk-lts.Need-walk-requires-2 (claims t) (walk-at t) walk.Post
 unfolding branchIn
-walk-walk-requires-2 t c κs = let e : c .before .before .before .before .waiting2 .result .branches ≡ c .before .before .before .before .before .before .before .before .before .before .before .before .before .before .before .before .before .before .before .before .before .before .before .before .before .before .before .before .before .before .before .before .before .before .before .before .before .before .before .before .args .from .branches + 1 = ap (λ (b : Branch). b .branches) (c .before .before .before .before .waiting2 .ensures) in
-    let h : c .before .before .before .before .waiting2 .result .held ≡ c .before .before .before .before .before .before .before .before .before .before .before .before .before .before .before .before .before .before .before .before .before .before .before .before .before .before .before .before .before .before .before .before .before .follow .result .held = ap (λ (b : Branch). b .held) (c .before .before .before .before .waiting2 .ensures) in
-    (omega (arith, e, c .before .before .before .before .before .before .before .before .before .before .before .before .before .before .before .before .before .before .before .before .before .before .before .before .before .before .before .before .before .before .before .before .before .before .before .before .before .before .before .before .pre .0, c .before .before .before .before .before .before .before .before .before .before .before .before .before .before .before .before .before .before .before .before .before .before .if2 .left), rw h (c .before .before .before .before .before .before .before .before .before .before .before .before .before .before .before .before .before .before .before .before .before .before .before .before .before .before .before .before .before .before .before .before .before .follow .ensures .1 .0))
+walk-walk-requires-2 t c κs = let e : c .before .before .before .before .before .waiting2 .result .branches ≡ c .before .before .before .before .before .before .before .before .before .before .before .before .before .before .before .before .before .before .before .before .before .before .before .before .before .before .before .before .before .before .before .before .before .before .before .before .before .before .before .before .before .before .before .args .from .branches + 1 = ap (λ (b : Branch). b .branches) (c .before .before .before .before .before .waiting2 .ensures) in
+    let h : c .before .before .before .before .before .waiting2 .result .held ≡ c .before .before .before .before .before .before .before .before .before .before .before .before .before .before .before .before .before .before .before .before .before .before .before .before .before .before .before .before .before .before .before .before .before .before .before .follow .result .held = ap (λ (b : Branch). b .held) (c .before .before .before .before .before .waiting2 .ensures) in
+    (omega (arith, e, c .before .before .before .before .before .before .before .before .before .before .before .before .before .before .before .before .before .before .before .before .before .before .before .before .before .before .before .before .before .before .before .before .before .before .before .before .before .before .before .before .before .before .before .pre .0, c .before .before .before .before .before .before .before .before .before .before .before .before .before .before .before .before .before .before .before .before .before .before .before .before .if2 .left), rw h (c .before .before .before .before .before .before .before .before .before .before .before .before .before .before .before .before .before .before .before .before .before .before .before .before .before .before .before .before .before .before .before .before .before .before .before .follow .ensures .1 .0))
 
 -- src/lib.rt:102:1
 walk-same-length-8 : (t : ℕ) → walk-lts.Need-same-length-8 (claims t) (walk-at t) walk.Post
-walk-same-length-8 t c = omega (arith, c .before .before .before .before .before .before .before .before .before .before .before .before .before .before .before .before .before .walk .kept, c .before .before .before .before .walk2 .kept)
+walk-same-length-8 t c = omega (arith, c .before .before .before .before .before .before .before .before .before .before .before .before .before .before .before .before .before .before .walk .kept, c .before .before .before .before .walk2 .kept)
 
 -- src/lib.rt:102:1
 walk-same-length-9 : (t : ℕ) → walk-lts.Need-same-length-9 (claims t) (walk-at t) walk.Post
-walk-same-length-9 t c = omega (arith, c .before .before .before .before .before .before .before .before .before .before .before .before .before .before .before .before .before .walk .kept, c .before .before .before .before .walk2 .kept, c .before .before .before .before .before .before .before .before .before .before .before .before .before .before .before .before .before .before .before .before .before .before .before .before .before .before .before .before .before .before .before .before .before .before .before .before .before .before .follow .kept)
+walk-same-length-9 t c = omega (arith, c .before .before .before .before .before .before .before .before .before .before .before .before .before .before .before .before .before .before .walk .kept, c .before .before .before .before .walk2 .kept, c .before .before .before .before .before .before .before .before .before .before .before .before .before .before .before .before .before .before .before .before .before .before .before .before .before .before .before .before .before .before .before .before .before .before .before .before .before .before .before .before .follow .kept)
 
 -- src/lib.rt:102:1
 walk-returns-5 : (t : ℕ) → walk-lts.Need-returns-5 (claims t) (walk-at t) walk.Post
-walk-returns-5 t c = both _ _ _ _ _ _ _ _ _ _ (c .before .before .before .before .before .before .before .before .before .before .before .before .before .before .before .before .before .before .before .before .before .before .before .before .before .before .before .before .before .before .before .before .before .before .before .before .before .before .follow .result) (c .before .before .before .before .before .before .before .before .before .before .before .before .before .before .before .before .before .before .before .before .before .before .before .before .before .before .before .before .before .before .before .before .before .before .before .before .before .before .follow .ensures .0) (c .before .before .before .before .before .before .before .before .before .before .before .before .before .before .before .before .before .before .before .before .before .before .before .before .before .before .before .before .before .before .before .before .before .before .full .ensures) (c .before .before .before .before .before .before .before .before .before .before .before .before .before .before .before .before .before .before .before .before .before .before .before .before .before .before .before .before .before .before .before .before .before .if1 .left) (c .before .before .before .before .before .before .before .before .before .before .before .before .before .before .before .before .before .before .before .before .before .before .before .before .before .before .before .before .before .before .before .next .given .1) (c .before .before .before .before .before .before .before .before .before .before .before .before .before .before .before .before .before .before .before .before .before .before .before .before .before .before .before .if2 .left) (c .before .before .before .before .before .before .before .before .before .before .before .before .before .before .before .before .before .before .before .before .before .before .before .before .condition .ensures) (c .before .before .before .before .before .before .before .before .before .before .before .before .before .before .before .before .before .before .before .before .before .before .before .with-condition .ensures) (c .before .before .before .before .before .before .before .before .before .before .before .before .before .before .before .before .before .before .before .before .before .before .waiting .ensures) (c .before .before .before .before .before .before .before .before .before .before .before .before .before .before .before .before .before .walk .ensures) (c .before .before .before .before .before .before .before .before .before .before .before .before .if3 .left) (c .before .before .before .before .before .before .before .before .before .before .before .condition2 .ensures) (c .before .before .before .before .before .before .before .before .before .before .with-condition2 .ensures) (c .before .before .before .before .before .before .before .before .before .waiting2 .ensures) (c .before .before .before .before .walk2 .ensures)
+walk-returns-5 t c = both _ _ _ _ _ _ _ _ _ _ (c .before .before .before .before .before .before .before .before .before .before .before .before .before .before .before .before .before .before .before .before .before .before .before .before .before .before .before .before .before .before .before .before .before .before .before .before .before .before .before .before .follow .result) (c .before .before .before .before .before .before .before .before .before .before .before .before .before .before .before .before .before .before .before .before .before .before .before .before .before .before .before .before .before .before .before .before .before .before .before .before .before .before .before .before .follow .ensures .0) (c .before .before .before .before .before .before .before .before .before .before .before .before .before .before .before .before .before .before .before .before .before .before .before .before .before .before .before .before .before .before .before .before .before .before .before .before .full .ensures) (c .before .before .before .before .before .before .before .before .before .before .before .before .before .before .before .before .before .before .before .before .before .before .before .before .before .before .before .before .before .before .before .before .before .before .before .if1 .left) (c .before .before .before .before .before .before .before .before .before .before .before .before .before .before .before .before .before .before .before .before .before .before .before .before .before .before .before .before .before .before .before .before .before .next .given .1) (c .before .before .before .before .before .before .before .before .before .before .before .before .before .before .before .before .before .before .before .before .before .before .before .before .before .before .before .before .before .if2 .left) (c .before .before .before .before .before .before .before .before .before .before .before .before .before .before .before .before .before .before .before .before .before .before .before .before .before .before .condition .ensures) (c .before .before .before .before .before .before .before .before .before .before .before .before .before .before .before .before .before .before .before .before .before .before .before .before .before .with-condition .ensures) (c .before .before .before .before .before .before .before .before .before .before .before .before .before .before .before .before .before .before .before .before .before .before .before .before .waiting .ensures) (c .before .before .before .before .before .before .before .before .before .before .before .before .before .before .before .before .before .before .walk .ensures) (c .before .before .before .before .before .before .before .before .before .before .before .before .before .if3 .left) (c .before .before .before .before .before .before .before .before .before .before .before .before .condition2 .ensures) (c .before .before .before .before .before .before .before .before .before .before .before .with-condition2 .ensures) (c .before .before .before .before .before .before .before .before .before .before .waiting2 .ensures) (c .before .before .before .before .walk2 .ensures)
 
 pub +walk-spec : {M : Type 1} → statement M
 +walk-spec = close μ-walk λ t. walk-lts.spec (claims t)

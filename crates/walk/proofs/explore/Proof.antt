@@ -28,7 +28,7 @@ zero-requires-2 c κs = search needs
 begin-requires : tie.Need-begin-requires
 begin-requires c κs = search needs
 
--- src/lib.rt:200:9
+-- src/lib.rt:200:10
 start-store-requires : tie.Need-start-store-requires
 start-store-requires c κs = search needs
 
@@ -58,7 +58,7 @@ same-length-2 c = search needs
 
 -- src/lib.rt:210:9
 returns : tie.Need-returns
-returns c = ends-refused (length (c .before .before .before .before .before .before .before .before .before .before .before .before .before .before .before .before .before .before .before .before .before .before .before .before .before .before .before .before .before .before .before .args .table .now)) (length (c .before .before .before .before .before .before .before .before .before .before .before .before .before .before .before .before .before .before .before .before .before .before .before .before .before .before .before .before .before .before .before .args .pool .now)) (reached _ _ _ _ _) (c .before .before .before .before .before .before .before .before .if1 .taken) (zeroed (length (c .before .before .before .before .before .before .before .before .before .before .before .before .before .walk .last .1 .1 .1 .1 .1 .1 .0)) (length (c .before .before .before .before .before .before .before .before .before .before .before .before .before .before .before .before .before .before .before .before .before .before .before .before .before .before .before .before .before .before .before .args .table .now)) (c .before .before .before .before .before .before .zero3 .ensures) (omega (arith, c .before .before .before .before .before .before .before .before .before .before .before .before .before .walk .kept, c .before .before .before .before .before .before .before .before .before .before .before .before .before .before .before .before .before .before .before .before .before .before .before .before .before .before .before .zero .kept))) (zeroed (length (c .before .before .before .before .before .before .before .before .before .before .before .before .before .walk .last .1 .1 .1 .1 .1 .1 .1 .1 .0)) (length (c .before .before .before .before .before .before .before .before .before .before .before .before .before .before .before .before .before .before .before .before .before .before .before .before .before .before .before .before .before .before .before .args .pool .now)) (c .before .before .zero4 .ensures) (omega (arith, c .before .before .before .before .before .before .before .before .before .before .before .before .before .walk .kept, c .before .before .before .before .before .before .before .before .before .before .before .before .before .before .before .before .before .before .before .before .before .before .before .zero2 .kept))) ∙ from-begin _ _ _ _ _ (c .before .before .before .before .before .before .before .before .before .before .before .before .before .before .before .before .before .before .before .before .begin .ensures) (c .before .before .before .before .before .before .before .before .before .before .before .before .before .before .before .before .before .before .before .start-store .ensures) (c .before .before .before .before .before .before .before .before .before .before .before .before .before .before .before .before .before .before .before .before .before .before .before .before .before .before .before .zero .ensures) (c .before .before .before .before .before .before .before .before .before .before .before .before .before .before .before .before .before .before .before .before .before .before .before .zero2 .ensures) (c .before .before .before .before .before .before .before .before .before .before .before .before .before .walk .ensures)
+returns c = ends-refused (length (c .before .before .before .before .before .before .before .before .before .before .before .before .before .before .before .before .before .before .before .before .before .before .before .before .before .before .before .before .before .before .before .before .args .table .now)) (length (c .before .before .before .before .before .before .before .before .before .before .before .before .before .before .before .before .before .before .before .before .before .before .before .before .before .before .before .before .before .before .before .before .args .pool .now)) (reached _ _ _ _ _) (c .before .before .before .before .before .before .before .before .if1 .taken) (zeroed (length (c .before .before .before .before .before .before .before .before .before .before .before .before .before .walk .last .1 .1 .1 .1 .1 .1 .0)) (length (c .before .before .before .before .before .before .before .before .before .before .before .before .before .before .before .before .before .before .before .before .before .before .before .before .before .before .before .before .before .before .before .before .args .table .now)) (c .before .before .before .before .before .before .zero3 .ensures) (omega (arith, c .before .before .before .before .before .before .before .before .before .before .before .before .before .walk .kept, c .before .before .before .before .before .before .before .before .before .before .before .before .before .before .before .before .before .before .before .before .before .before .before .before .before .before .before .before .zero .kept))) (zeroed (length (c .before .before .before .before .before .before .before .before .before .before .before .before .before .walk .last .1 .1 .1 .1 .1 .1 .1 .1 .0)) (length (c .before .before .before .before .before .before .before .before .before .before .before .before .before .before .before .before .before .before .before .before .before .before .before .before .before .before .before .before .before .before .before .before .args .pool .now)) (c .before .before .zero4 .ensures) (omega (arith, c .before .before .before .before .before .before .before .before .before .before .before .before .before .walk .kept, c .before .before .before .before .before .before .before .before .before .before .before .before .before .before .before .before .before .before .before .before .before .before .before .before .zero2 .kept))) ∙ from-begin _ _ _ _ _ (c .before .before .before .before .before .before .before .before .before .before .before .before .before .before .before .before .before .before .before .before .before .begin .ensures) (c .before .before .before .before .before .before .before .before .before .before .before .before .before .before .before .before .before .before .before .before .start-store .ensures) (c .before .before .before .before .before .before .before .before .before .before .before .before .before .before .before .before .before .before .before .before .before .before .before .before .before .before .before .before .zero .ensures) (c .before .before .before .before .before .before .before .before .before .before .before .before .before .before .before .before .before .before .before .before .before .before .before .before .zero2 .ensures) (c .before .before .before .before .before .before .before .before .before .before .before .before .before .walk .ensures)
 
 -- src/lib.rt:212:5
 write-heading-requires : tie.Need-write-heading-requires
@@ -74,7 +74,7 @@ same-length-4 c = search needs
 
 -- src/lib.rt:188:1
 returns-2 : tie.Need-returns-2
-returns-2 c = ends-well _ _ (reached _ _ _ _ _) (c .before .before .before .before .if1 .left) (c .before .before .write-heading .ensures) ∙ from-begin _ _ _ _ _ (c .before .before .before .before .before .before .before .before .before .before .before .before .before .before .before .before .begin .ensures) (c .before .before .before .before .before .before .before .before .before .before .before .before .before .before .before .start-store .ensures) (c .before .before .before .before .before .before .before .before .before .before .before .before .before .before .before .before .before .before .before .before .before .before .before .zero .ensures) (c .before .before .before .before .before .before .before .before .before .before .before .before .before .before .before .before .before .before .before .zero2 .ensures) (c .before .before .before .before .before .before .before .before .before .walk .ensures)
+returns-2 c = ends-well _ _ (reached _ _ _ _ _) (c .before .before .before .before .if1 .left) (c .before .before .write-heading .ensures) ∙ from-begin _ _ _ _ _ (c .before .before .before .before .before .before .before .before .before .before .before .before .before .before .before .before .before .begin .ensures) (c .before .before .before .before .before .before .before .before .before .before .before .before .before .before .before .before .start-store .ensures) (c .before .before .before .before .before .before .before .before .before .before .before .before .before .before .before .before .before .before .before .before .before .before .before .before .zero .ensures) (c .before .before .before .before .before .before .before .before .before .before .before .before .before .before .before .before .before .before .before .before .zero2 .ensures) (c .before .before .before .before .before .before .before .before .before .walk .ensures)
 
 pub explore-spec : {M : Type 1} → statement M
 explore-spec =
