@@ -7,8 +7,8 @@ use values::word;
 use words::put_word;
 ghost use mathlib.Core.Path.{_≡_};
 ghost use mathlib.Core.List.{[], _∷_};
-ghost use Prim.Native.Nat.{min, _<_};
-ghost use Rattle.rows.specs.Stored.{putWords, headOf, withConditions, withVariables, withCells, withRow, withRowAt};
+ghost use Prim.Native.Nat.{min, _+_, _*_, _<_};
+ghost use Rattle.rows.specs.Stored.{putWords, headOf, cellOf, withConditions, withVariables, withRow, withRowAt};
 
 // A row's first ten words. Outcome, tag and word are its outcome and value, error number or reason; the last three count what follows.
 pub struct Head {
@@ -53,7 +53,8 @@ pub fn finish_row(
     write_row(&mut table[at..], head, conditions, store, frame, cells);
 }
 
-// A row: `part` begins where the row does, conditions are 2 × term + truth, the variables are those of one frame of the store.
+// A row: `part` begins where the row does, conditions are 2 × term + truth, the variables are those of one frame of the store. The cells are
+// gone through here, since a function of their own would be handed a copy of all 32.
 pub fn write_row(
     part: &mut [u8],
     head: Head,
@@ -67,7 +68,13 @@ pub fn write_row(
     write_head(part, head);
     write_conditions(part, head.conditions, conditions);
     write_variables(part, head.variables, store, frame);
-    write_cells(part, head.cells, cells);
+    let n = held(head.cells, 32);
+    let mut i = 0;
+    while i < n {
+        let c = cells[i];
+        write_cell(part, i, c);
+        i += 1;
+    }
 }
 
 // Two words side by side
@@ -125,15 +132,10 @@ fn write_variables(part: &mut [u8], count: u32, store: &[u64; 152], frame: u32)
     }
 }
 
-fn write_cells(part: &mut [u8], count: u32, cells: [Cell; 32])
-    ensures { λ _. ⌜ now (part .exit) ≡ withCells (now (part .entry)) count cells ⌝ }
+fn write_cell(part: &mut [u8], i: usize, c: Cell)
+    requires { ⌜ i < 32 ⌝ }
+    ensures { λ _. ⌜ now (part .exit) ≡ putWords (now (part .entry)) (320 + 16 * i) (cellOf c) ⌝ }
 {
-    let n = held(count, 32);
-    let mut i = 0;
-    while i < n {
-        let c = cells[i];
-        put_pair(part, 320 + 16 * i, c.location.0, c.property);
-        put_pair(part, 328 + 16 * i, tag(c.value), word(c.value));
-        i += 1;
-    }
+    put_pair(part, 320 + 16 * i, c.location.0, c.property);
+    put_pair(part, 328 + 16 * i, tag(c.value), word(c.value));
 }
