@@ -1,5 +1,5 @@
 -- Laws of the cells in use that the loops go by. Assumes nothing.
-use Prim.Native.Nat.{ℕ, suc, _+_, _-_, _<_, _≤_}
+use Prim.Native.Nat.{ℕ, zero, suc, _+_, _-_, _<_, _≤_}
 use mathlib.Core.Bool.{Bool, true, false, _&&_, _||_}
 use mathlib.Core.Path.{_≡_, refl, sym, _∙_, ap, ap₂}
 use mathlib.Core.List.{List, [], _∷_, _++_, map, map-append, append-nil}
@@ -7,11 +7,11 @@ use mathlib.Core.Option.{some}
 use native.Mathlib.Numerals.{add-one}
 use native.Mathlib.Decide.{decLe}
 use native.Mathlib.Omega.{arith}
-use lib.ListN.{length, getD, take, drop, set, length-take, drop-of-length-le, take-append-drop, length-map}
+use lib.ListN.{length, getD, take, drop, set, length-append, length-take, length-drop, drop-of-length-le, take-append-drop, length-map}
 use lib.Dec.{eqb, ltb, leb}
 use lib.Seq.{drop-cons, getD-take, take-suc-set, take-set-lt, drop-set-lt, append-snoc, length-take-le}
 use borrow.Author.Tests.{ltb-true, ltb-false, eq-eqb, ne-eqb, lt-ltb, le-ltb, le-leb, lt-leb}
-use Rattle.gil.specs.Theory.Tests.{no-false, and-left, and-right}
+use Rattle.gil.specs.Theory.Tests.{chosen, no-false, and-left, and-right}
 use Rattle.gil.specs.Machine as Machine
 use Rattle.gil.specs.Machine.{isAt, isBefore, cellAt, withoutCells}
 use Rattle.cells.specs.declared.Cell.{Cell}
@@ -50,21 +50,28 @@ module _ {T : Type 0} (l : ℕ) (c : Machine.Cell T) (cs : List (Machine.Cell T)
   unfolding withoutCells
   without-other e = ap (λ (b : Bool). elim b [ true ↦ withoutCells l cs | false ↦ c ∷ withoutCells l cs ]) e
 
--- where the search ends
-module _ (s : Bool) (l q k : ℕ) (c : Machine.Cell ℕ) (cs : List (Machine.Cell ℕ)) where
-  pub place-here : reaches s l q c ≡ true → placeFrom s l q k (c ∷ cs) ≡ k
-  unfolding placeFrom
-  place-here e = ap (λ (b : Bool). elim b [ true ↦ k | false ↦ placeFrom s l q (suc k) cs ]) e
+pub without-fewer : {T : Type 0} (l : ℕ) (cs : List (Machine.Cell T)) → length (withoutCells l cs) ≤ length cs
+unfolding withoutCells
+without-fewer l [] = omega arith
+without-fewer l (c ∷ cs) =
+    let rest : length (withoutCells l cs) ≤ length cs = without-fewer l cs in
+    chosen (λ (ds : List (Machine.Cell _)). length ds ≤ suc (length cs)) (eqb l (c .location)) (λ _. omega arith) (λ _. omega arith)
 
-  pub place-later : reaches s l q c ≡ false → placeFrom s l q k (c ∷ cs) ≡ placeFrom s l q (suc k) cs
+-- where the search ends
+module _ (l q k : ℕ) (c : Machine.Cell ℕ) (cs : List (Machine.Cell ℕ)) where
+  pub place-here : reaches l q c ≡ true → placeFrom l q k (c ∷ cs) ≡ k
   unfolding placeFrom
-  place-later e = ap (λ (b : Bool). elim b [ true ↦ k | false ↦ placeFrom s l q (suc k) cs ]) e
+  place-here e = ap (λ (b : Bool). elim b [ true ↦ k | false ↦ placeFrom l q (suc k) cs ]) e
+
+  pub place-later : reaches l q c ≡ false → placeFrom l q k (c ∷ cs) ≡ placeFrom l q (suc k) cs
+  unfolding placeFrom
+  place-later e = ap (λ (b : Bool). elim b [ true ↦ k | false ↦ placeFrom l q (suc k) cs ]) e
 
 -- a loop that stands at place i: nothing is left
 module _ (i n : ℕ) (cells : List Cell) where
-  pub place-none : (s : Bool) (l q : ℕ) → drop i (take n cells) ≡ [] → placeFrom s l q i (fromIn i n cells) ≡ i
+  pub place-none : (l q : ℕ) → drop i (take n cells) ≡ [] → placeFrom l q i (fromIn i n cells) ≡ i
   unfolding placeFrom
-  place-none s l q e = ap (λ (cs : List Cell). placeFrom s l q i (map cellOf cs)) e
+  place-none l q e = ap (λ (cs : List Cell). placeFrom l q i (map cellOf cs)) e
 
   pub leads-none : (l q : ℕ) → drop i (take n cells) ≡ [] → leads l q (fromIn i n cells) ≡ false
   unfolding leads
@@ -87,15 +94,15 @@ module _ (i n : ℕ) (cells : List Cell) where
     found-here l q e =
         ap (λ (cs : List (Machine.Cell ℕ)). foundIn (cellAt l q cs)) split ∙ ap foundIn (at-here l q _ _ (sym (leads-here l q) ∙ e))
 
-    pub placed-here : (s : Bool) (l q : ℕ) → reaches s l q (cellOf (getD cells i noCell)) ≡ true → placeFrom s l q i (fromIn i n cells) ≡ i
-    placed-here s l q e = ap (placeFrom s l q i) split ∙ place-here s l q i _ _ e
+    pub placed-here : (l q : ℕ) → reaches l q (cellOf (getD cells i noCell)) ≡ true → placeFrom l q i (fromIn i n cells) ≡ i
+    placed-here l q e = ap (placeFrom l q i) split ∙ place-here l q i _ _ e
 
-    pub placed-later : (s : Bool) (l q : ℕ) → reaches s l q (cellOf (getD cells i noCell)) ≡ false
-        → placeFrom s l q i (fromIn i n cells) ≡ placeFrom s l q (i + 1) (fromIn (i + 1) n cells)
-    placed-later s l q e =
-        ap (placeFrom s l q i) split
-        ∙ place-later s l q i _ _ e
-        ∙ ap (λ (k : ℕ). placeFrom s l q k (fromIn (i + 1) n cells)) (sym (add-one i))
+    pub placed-later : (l q : ℕ) → reaches l q (cellOf (getD cells i noCell)) ≡ false
+        → placeFrom l q i (fromIn i n cells) ≡ placeFrom l q (i + 1) (fromIn (i + 1) n cells)
+    placed-later l q e =
+        ap (placeFrom l q i) split
+        ∙ place-later l q i _ _ e
+        ∙ ap (λ (k : ℕ). placeFrom l q k (fromIn (i + 1) n cells)) (sym (add-one i))
 
     pub taken-out : (l : ℕ) → eqb l (getD cells i noCell .location .0) ≡ true
         → withoutCells l (fromIn i n cells) ≡ withoutCells l (fromIn (i + 1) n cells)
@@ -124,7 +131,7 @@ hits-inside l q held f e =
     (and-right (ltb (f .place) held) (ltb (f .place) 32) (and-left (ltb (f .place) held && ltb (f .place) 32) (isAt l q (cellOf (f .cell))) e))
 
 -- what was found is what stands there
-module _ (s : Bool) (l q held : ℕ) (cells : List Cell) (whole : length cells ≡ 32) (f : Found) (is : FoundAt s l q held cells f) where
+module _ (l q held : ℕ) (cells : List Cell) (whole : length cells ≡ 32) (f : Found) (is : FoundAt l q held cells f) where
   hits-by : (a b : Bool) → ltb (f .place) held ≡ a → ltb (f .place) 32 ≡ b
       → a && b && isAt l q (cellOf (f .cell)) ≡ leads l q (fromIn (f .place) held cells)
   hits-by true true d e =
@@ -162,6 +169,23 @@ module _ (last : ℕ) (i : ℕ) (c : Cell) (out : List Cell) where
       let e : last + 1 - i ≡ 0 = omega arith in
       ap (λ (m : ℕ). take i out ++ shiftIn m c (drop i out)) e ∙ take-append-drop i out
 
+shift-length : {A : Type 0} (k : ℕ) (c : A) (l : List A) → length (shiftIn k c l) ≡ length l
+unfolding shiftIn
+shift-length zero c l = refl
+shift-length (suc k) c [] = refl
+shift-length (suc k) c (x ∷ l) = ap suc (shift-length k x l)
+
+pub carried-length : (at last : ℕ) (c : Cell) (cells : List Cell) → length (carriedIn at last c cells) ≡ length cells
+unfolding carriedIn
+carried-length at last c cells =
+    omega (
+      arith,
+      length-append (take at cells) (shiftIn (last + 1 - at) c (drop at cells)),
+      shift-length (last + 1 - at) c (drop at cells),
+      length-take at cells,
+      length-drop at cells,
+    )
+
 -- the cells kept so far, the first `n`, and those not yet looked at, from the place i on
 module _ (l i n held : ℕ) (zs : List Cell) where
   pub removed-skip : i < held → held ≤ length zs → eqb l (getD zs i noCell .location .0) ≡ true
@@ -193,7 +217,7 @@ module _ (l i n held : ℕ) (zs : List Cell) where
       ∙ e in
       (sym (length-take-le n zs h) ∙ sym (length-map (take n zs) cellOf) ∙ ap length f, f)
 
--- whether a search that stops ends at a cell, by one comparison
+-- whether the search ends at a cell, by one comparison
 at-or-before : (q p : ℕ) → eqb q p || ltb q p ≡ leb q p
 at-or-before q p = elim (decLe q p) [ yes h ↦ below h | no h ↦ above (omega arith) ]
   where
@@ -208,14 +232,10 @@ or-false true = refl
 or-false false = refl
 
 module _ (l q : ℕ) (c : Machine.Cell ℕ) where
-  pub reached-here : l ≡ c .location → leb q (c .property) ≡ reaches true l q c
+  pub reached-here : l ≡ c .location → leb q (c .property) ≡ reaches l q c
   unfolding reaches isAt isBefore
   reached-here e = sym (rw (eq-eqb l (c .location) e, le-ltb l (c .location) (omega arith)) (at-or-before q (c .property)))
 
-  pub reached-elsewhere : (l ≡ c .location → ⊥) → ltb l (c .location) ≡ reaches true l q c
+  pub reached-elsewhere : (l ≡ c .location → ⊥) → ltb l (c .location) ≡ reaches l q c
   unfolding reaches isAt isBefore
   reached-elsewhere h = rw (ne-eqb l (c .location) h) (sym (or-false (ltb l (c .location))))
-
-  pub reached-at : isAt l q c ≡ reaches false l q c
-  unfolding reaches
-  reached-at = sym (or-false (isAt l q c))

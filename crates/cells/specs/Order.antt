@@ -9,7 +9,7 @@ use mathlib.Core.List.{List, [], _∷_}
 use mathlib.Core.Option.{none, some}
 use native.Mathlib.Omega.{arith}
 use lib.Dec.{ltb, eqb}
-use borrow.Author.Tests.{ltb-true, ltb-false, eqb-true, eqb-false, lt-ltb, le-ltb, eq-eqb, ne-eqb}
+use borrow.Author.Tests.{ltb-true, ltb-false, eqb-true, eqb-false, lt-ltb, eq-eqb, ne-eqb}
 use Rattle.gil.specs.Values.{Value}
 use Rattle.gil.specs.Theory.Tests.{chosen, no-false}
 use Rattle.gil.specs.Machine.{Cell, isAt, isBefore, cellAt, putCell, withoutCells}
@@ -36,7 +36,7 @@ both : (a b : Bool) → a && b ≡ true → (a ≡ true) × (b ≡ true)
 both true b e = (refl, e)
 both false b e = no-false e refl
 
-or-right : (a b : Bool) → b ≡ true → a || b ≡ true
+pub or-right : (a b : Bool) → b ≡ true → a || b ≡ true
 or-right true b e = refl
 or-right false b e = e
 
@@ -79,9 +79,24 @@ module _ {T : Type 0} (l q : ℕ) (c : Cell T) where
   unfolding isAt
   other e = less-other l q (c .location) (c .property) (less e)
 
+  there : isAt l q c ≡ true → (l ≡ c .location) × (q ≡ c .property)
+  unfolding isAt
+  there e =
+      let b = both (eqb l (c .location)) (eqb q (c .property)) e in
+      (eqb-true l (c .location) (b .0), eqb-true q (c .property) (b .1))
+
   past : isAt l q c ≡ false → isBefore l q c ≡ false → Less (c .location) (c .property) l q
   unfolding isAt isBefore
   past e f = past-by l q (c .location) (c .property) (ltb l (c .location)) (eqb l (c .location)) refl refl e f
+
+-- what comes before a cell that is the one sought or beyond it comes before those behind
+pub before-on : {T : Type 0} (l q : ℕ) (c d : Cell T) → isAt l q c || isBefore l q c ≡ true → isBefore (c .location) (c .property) d ≡ true → isBefore l q d ≡ true
+before-on l q c d e b = on (either (isAt l q c) (isBefore l q c) e)
+  where
+    on : (isAt l q c ≡ true) ⊎ (isBefore l q c ≡ true) → isBefore l q d ≡ true
+    on (inl at) = let p = there l q c at in subst₂ (λ (m r : ℕ). isBefore m r d ≡ true) (sym (p .0)) (sym (p .1)) b
+    on (inr less′) =
+        before l q d (less-trans l q (c .location) (c .property) (d .location) (d .property) (less l q c less′) (less (c .location) (c .property) d b))
 
 -- where the place comes before another, it is ahead of what that is ahead of
 ahead-trans : {T : Type 0} (l q m p : ℕ) → Less l q m p → (cs : List (Cell T)) → Ahead m p cs → Ahead l q cs
@@ -123,12 +138,6 @@ module _ {T : Type 0} (l q : ℕ) (v : Value T) where
   abbrev new : Cell T
   new = record { location = l; property = q; value = v }
 
-  there : (c : Cell T) → isAt l q c ≡ true → (l ≡ c .location) × (q ≡ c .property)
-  unfolding isAt
-  there c e =
-      let b = both (eqb l (c .location)) (eqb q (c .property)) e in
-      (eqb-true l (c .location) (b .0), eqb-true q (c .property) (b .1))
-
   ahead-put : (m p : ℕ) → Less m p l q → (cs : List (Cell T)) → Ahead m p cs → Ahead m p (putCell l q v cs)
   unfolding putCell
   ahead-put m p h [] a = ahead new [] (before m p new h) last
@@ -142,7 +151,7 @@ module _ {T : Type 0} (l q : ℕ) (v : Value T) where
   put-keeps [] o = behind new [] last empty
   put-keeps (c ∷ cs) (behind d ds a o) =
       chosen Ordered (isAt l q c)
-      (λ e. behind new cs (subst₂ (λ (m p : ℕ). Ahead m p cs) (sym (there c e .0)) (sym (there c e .1)) a) o)
+      (λ e. behind new cs (subst₂ (λ (m p : ℕ). Ahead m p cs) (sym (there l q c e .0)) (sym (there l q c e .1)) a) o)
       (λ e. chosen Ordered (isBefore l q c)
       (λ f. behind new (c ∷ cs) (ahead c cs f (ahead-trans l q (c .location) (c .property) (less l q c f) cs a)) (behind c cs a o))
       (λ f. behind c (putCell l q v cs) (ahead-put (c .location) (c .property) (past l q c e f) cs a) (put-keeps cs o)))

@@ -1,15 +1,13 @@
 // The memory: "Cells are kept in order of location, then of property by its first place in the text". Up to 32 cells stand in an array, the
-// first `held` of them in use. Search, insert and removal work on the lent slice; the functions above them lend an array that goes in by value
-// and give it back. What is found, put in and taken out is Machine's `cellAt`, `putCell` and `withoutCells` over the cells in use
-// (specs/Held.antt); nothing here needs them to be in order, and specs/Order.antt says that they stay so.
+// first `held` of them in use and in order (specs/Order.antt). Search, insert and removal work on the lent slice, so that no cell is copied but
+// those that move; `decide` says for each action, from what was found, what is to be put in and taken out. What is found, put in and taken out
+// is Machine's `cellAt`, `putCell` and `withoutCells` over the cells in use (specs/Held.antt, specs/Served.antt).
 ghost use mathlib.Core.Path.{_≡_};
-ghost use mathlib.Core.Bool.{true};
-ghost use mathlib.Core.List.{List};
-ghost use Prim.Native.Nat.{_<_, _≤_, min};
-ghost use lib.ListN.{length};
-ghost use Rattle.gil.specs.Machine.{isAt, cellAt, putCell, withoutCells};
-ghost use Rattle.gil.specs.Values.{term};
-ghost use Rattle.cells.specs.Held.{cellOf, heldIn, foundIn, reaches, FoundAt, hits, lastOf, carriedIn};
+ghost use Prim.Native.Nat.{_<_, _≤_};
+ghost use lib.ListN.{length, drop};
+ghost use Rattle.gil.specs.Machine.{isAt, withoutCells};
+ghost use Rattle.cells.specs.Held.{cellOf, heldIn, reaches, FoundAt, hits, carriedIn, doing, mutatedIn, lookedIn, deedIn};
+ghost use Rattle.cells.specs.Order.{Ordered};
 use values::Location;
 
 pub const CELLS: usize = 32;
@@ -40,22 +38,12 @@ fn is_at(c: Cell, l: Location, q: u32) -> bool
 
 // The cell is the one sought, or one beyond it
 fn is_reached(c: Cell, l: Location, q: u32) -> bool
-    ensures { λ r. ⌜ r ≡ reaches true (l .0) q (cellOf c) ⌝ }
+    ensures { λ r. ⌜ r ≡ reaches (l .0) q (cellOf c) ⌝ }
 {
     if l.0 == c.location.0 {
         return q <= c.property;
     }
     l.0 < c.location.0
-}
-
-// Whether a search ends at the cell: it is the one sought, or, where the search `stops`, one beyond it
-fn ends(c: Cell, l: Location, q: u32, stops: bool) -> bool
-    ensures { λ r. ⌜ r ≡ reaches stops (l .0) q (cellOf c) ⌝ }
-{
-    if stops {
-        return is_reached(c, l, q);
-    }
-    is_at(c, l, q)
 }
 
 // Where a search ended, and the cell that stands there, if one is in use there
@@ -64,36 +52,37 @@ pub struct Found {
     pub cell: Cell,
 }
 
-// The first of the cells in use at which the search ends
-fn search(cells: &[Cell], held: usize, l: Location, q: u32, stops: bool) -> Found
+// The first of the cells in use that is the one sought or beyond it. They are in order, so each look halves what is left.
+pub fn search(cells: &[Cell], held: usize, l: Location, q: u32) -> Found
     requires { ⌜ held ≤ length (now cells) ⌝ }
-    ensures { λ r. ⌜ FoundAt stops (l .0) q held (now (cells .entry)) r ⌝ }
+    requires { ⌜ Ordered (heldIn held (now cells)) ⌝ }
+    ensures { λ r. ⌜ FoundAt (l .0) q held (now (cells .entry)) r ⌝ }
 {
-    let mut c = Cell {
+    let mut found = Cell {
         location: l,
         property: q,
         value: 0,
     };
-    let mut i: usize = 0;
-    while i < held {
-        c = cells[i];
-        if ends(c, l, q, stops) {
-            break;
+    let mut low: usize = 0;
+    let mut high = held;
+    while low < high {
+        let middle = low + (high - low) / 2;
+        let c = cells[middle];
+        if is_reached(c, l, q) {
+            found = c;
+            high = middle;
+        } else {
+            low = middle + 1;
         }
-        i += 1;
     }
-    Found { place: i, cell: c }
-}
-
-fn place(cells: [Cell; CELLS], held: usize, l: Location, q: u32, stops: bool) -> Found
-    requires { ⌜ held ≤ 32 ⌝ }
-    ensures { λ r. ⌜ FoundAt stops (l .0) q held cells r ⌝ }
-{
-    search(&cells, held, l, q, stops)
+    Found {
+        place: low,
+        cell: found,
+    }
 }
 
 // A cell put in at a place; those from there up to `last` move up by one, and the last of them drops out
-fn insert(cells: &mut [Cell], at: usize, last: usize, cell: Cell)
+pub fn insert(cells: &mut [Cell], at: usize, last: usize, cell: Cell)
     requires { ⌜ last < length (now cells) ⌝ }
     ensures { λ _. ⌜ now (cells .exit) ≡ carriedIn at last cell (now (cells .entry)) ⌝ }
 {
@@ -107,19 +96,10 @@ fn insert(cells: &mut [Cell], at: usize, last: usize, cell: Cell)
     }
 }
 
-fn carry(cells: [Cell; CELLS], at: usize, last: usize, cell: Cell) -> [Cell; CELLS]
-    requires { ⌜ last < 32 ⌝ }
-    ensures { λ r. ⌜ r ≡ carriedIn at last cell cells ⌝ }
-{
-    let mut out = cells;
-    insert(&mut out, at, last, cell);
-    out
-}
-
 // The cells of a location taken out, the others kept in order; how many are kept
-fn remove(cells: &mut [Cell], held: usize, l: Location) -> usize
+pub fn remove(cells: &mut [Cell], held: usize, l: Location) -> usize
     requires { ⌜ held ≤ length (now cells) ⌝ }
-    ensures { λ r. ⌜ (r ≡ length (withoutCells (l .0) (heldIn held (now (cells .entry))))) × (heldIn r (now (cells .exit)) ≡ withoutCells (l .0) (heldIn held (now (cells .entry)))) ⌝ }
+    ensures { λ r. ⌜ (r ≡ length (withoutCells (l .0) (heldIn held (now (cells .entry))))) × (heldIn r (now (cells .exit)) ≡ withoutCells (l .0) (heldIn held (now (cells .entry)))) × (drop held (now (cells .exit)) ≡ drop held (now (cells .entry))) ⌝ }
 {
     let mut n: usize = 0;
     let mut i: usize = 0;
@@ -132,35 +112,6 @@ fn remove(cells: &mut [Cell], held: usize, l: Location) -> usize
         i += 1;
     }
     n
-}
-
-fn without(cells: [Cell; CELLS], held: usize, l: Location) -> [Cell; CELLS]
-    requires { ⌜ held ≤ 32 ⌝ }
-    ensures { λ r. ⌜ heldIn (length (withoutCells (l .0) (heldIn held cells))) r ≡ withoutCells (l .0) (heldIn held cells) ⌝ }
-{
-    let mut out = cells;
-    remove(&mut out, held, l);
-    out
-}
-
-fn remaining(cells: [Cell; CELLS], held: usize, l: Location) -> usize
-    requires { ⌜ held ≤ 32 ⌝ }
-    ensures { λ r. ⌜ r ≡ length (withoutCells (l .0) (heldIn held cells)) ⌝ }
-{
-    let mut out = cells;
-    remove(&mut out, held, l)
-}
-
-fn used(held: usize) -> usize
-    ensures { λ r. ⌜ r ≡ min held 32 ⌝ }
-{
-    if held < CELLS { held } else { CELLS }
-}
-
-fn place_in(cells: [Cell; CELLS], held: usize, l: Location, q: u32, stops: bool) -> Found
-    ensures { λ r. ⌜ FoundAt stops (l .0) q held cells r ⌝ }
-{
-    place(cells, used(held), l, q, stops)
 }
 
 // Whether the cell sought was found
@@ -176,74 +127,98 @@ fn here(f: Found, held: usize, l: Location, q: u32) -> bool
     false
 }
 
-// The value of the cell, or 0
-pub fn find(cells: [Cell; CELLS], held: usize, l: Location, q: u32) -> u64
-    ensures { λ r. ⌜ r ≡ foundIn (cellAt (l .0) q (heldIn held cells)) ⌝ }
-{
-    let f = place_in(cells, held, l, q, false);
-    if here(f, held, l, q) {
-        let c = f.cell;
-        return c.value;
-    }
-    0
+// What an action asks of the cells: `lookup`, `mutate` or `dispose` by its number in document 01's table, or nothing (0); `value` is what
+// `mutate` writes
+pub struct Ask {
+    pub kind: u32,
+    pub location: Location,
+    pub property: u32,
+    pub value: u64,
 }
 
-// Where a cell is put: its own place, or that of the first cell beyond it
-pub fn place_of(cells: [Cell; CELLS], held: usize, l: Location, q: u32) -> Found
-    ensures { λ r. ⌜ FoundAt true (l .0) q held cells r ⌝ }
-{
-    place_in(cells, held, l, q, true)
+// What is done to the cells for it: `cell` is put in at a place, those up to `last` moving up, and then the location's cells are taken out of the
+// first `among`; how many are in use before that removal; and what the action's variable is given, 0 where it errs.
+pub struct Deed {
+    pub at: usize,
+    pub last: usize,
+    pub cell: Cell,
+    pub among: usize,
+    pub held: usize,
+    pub given: u64,
 }
 
-// How many cells are in use once the cell is put at its place
-pub fn grown_at(f: Found, held: usize, l: Location, q: u32) -> usize
-    ensures { λ r. ⌜ ((cells : List Cell) → length cells ≡ 32 → FoundAt true (l .0) q held cells f → held ≤ 32 → r ≡ length (putCell (l .0) q (term 0) (heldIn held cells))) ⌝ }
+// Nothing is put in: no place is from 1 up to 0
+fn unchanged(a: Ask, among: usize, held: usize, given: u64) -> Deed
+    ensures { λ r. ⌜ r ≡ doing a 1 0 among held given ⌝ }
 {
-    if here(f, held, l, q) {
-        return held;
-    }
-    if held < CELLS { held + 1 } else { CELLS + 1 }
-}
-
-// The last cell that moves where the cell is put: none but its own, or all those in use behind its place
-fn last(f: Found, held: usize, l: Location, q: u32) -> usize
-    ensures { λ r. ⌜ r ≡ lastOf (l .0) q held f ⌝ }
-{
-    if here(f, held, l, q) {
-        return f.place;
-    }
-    if held < CELLS { held } else { 31 }
-}
-
-// "`mutate` writes the cell, adding it if absent": the cells after it is put at its place, where there is room
-pub fn put_at(
-    cells: [Cell; CELLS],
-    held: usize,
-    f: Found,
-    l: Location,
-    q: u32,
-    v: u64,
-) -> [Cell; CELLS]
-    ensures { λ r. ⌜ (FoundAt true (l .0) q held cells f → held ≤ 32 → length (putCell (l .0) q (term v) (heldIn held cells)) ≤ 32 → heldIn (length (putCell (l .0) q (term v) (heldIn held cells))) r ≡ putCell (l .0) q (term v) (heldIn held cells)) ⌝ }
-{
+    let location = a.location;
     let cell = Cell {
-        location: l,
-        property: q,
-        value: v,
+        location,
+        property: a.property,
+        value: a.value,
     };
-    carry(cells, f.place, last(f, held, l, q), cell)
+    Deed {
+        at: 1,
+        last: 0,
+        cell,
+        among,
+        held,
+        given,
+    }
 }
 
-// How many cells are in use once a location's are taken out
-pub fn kept(cells: [Cell; CELLS], held: usize, l: Location) -> usize
-    ensures { λ r. ⌜ r ≡ length (withoutCells (l .0) (heldIn held cells)) ⌝ }
+// The cell takes the place where it stands, or those behind its place move up
+fn put_in(a: Ask, at: usize, last: usize, held: usize, given: u64) -> Deed
+    ensures { λ r. ⌜ r ≡ doing a at last 0 held given ⌝ }
 {
-    remaining(cells, used(held), l)
+    let location = a.location;
+    let cell = Cell {
+        location,
+        property: a.property,
+        value: a.value,
+    };
+    Deed {
+        at,
+        last,
+        cell,
+        among: 0,
+        held,
+        given,
+    }
 }
 
-// "`dispose` removes all cells of the location": the others, in order
-pub fn take_out(cells: [Cell; CELLS], held: usize, l: Location) -> [Cell; CELLS]
-    ensures { λ r. ⌜ heldIn (length (withoutCells (l .0) (heldIn held cells))) r ≡ withoutCells (l .0) (heldIn held cells) ⌝ }
+// "`mutate` writes the cell, adding it if absent"; a thirty-third is not added
+fn mutated(a: Ask, f: Found, held: usize) -> Deed
+    ensures { λ r. ⌜ r ≡ mutatedIn a f held ⌝ }
 {
-    without(cells, used(held), l)
+    if here(f, held, a.location, a.property) {
+        return put_in(a, f.place, f.place, held, values::truth(true));
+    }
+    if held < CELLS {
+        return put_in(a, f.place, held, held + 1, values::truth(true));
+    }
+    unchanged(a, 0, held, 0)
+}
+
+// "`lookup` gives the cell's value"
+fn looked(a: Ask, f: Found, held: usize) -> Deed
+    ensures { λ r. ⌜ r ≡ lookedIn a f held ⌝ }
+{
+    if here(f, held, a.location, a.property) {
+        let c = f.cell;
+        return unchanged(a, 0, held, c.value);
+    }
+    unchanged(a, 0, held, 0)
+}
+
+pub fn decide(a: Ask, f: Found, held: usize) -> Deed
+    ensures { λ r. ⌜ r ≡ deedIn a f held ⌝ }
+{
+    let kind = a.kind;
+    match kind {
+        4 => looked(a, f, held),
+        5 => mutated(a, f, held),
+        6 => unchanged(a, held, held, values::truth(true)),
+        _ => unchanged(a, 0, held, 0),
+    }
 }

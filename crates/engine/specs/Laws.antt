@@ -22,16 +22,13 @@ use Rattle.evaluate.specs.Evaluated.{evaluateIn}
 use Rattle.evaluate.specs.Laws.{evaluate-as}
 use Rattle.commands.specs.declared.Control.{Control}
 use Rattle.commands.specs.declared.Command.{Command}
-use Rattle.commands.specs.Stepped.{vanishCommand, fetchIn, After, actIn, stepIn}
-use Rattle.actions.specs.Changed.{lookupIn, Changed, changed, mutateSecond, mutateIn, disposeIn, changeIn}
+use Rattle.commands.specs.Stepped.{vanishCommand, fetchIn, actIn, stepIn}
+use Rattle.actions.specs.Changed.{lookupIn, Changed, ofAfter, mutateSecond, mutateIn, disposeIn, changeIn}
 use Rattle.engine.specs.State.{top}
 use Rattle.engine.specs.Moves.{StateAs, hasFailed, hasVanished, MovedAs, ChangedAs, value-as, operand-as, assign-as, jump-as, enter-by, locate-by, receive-by, look-as, mutate-as, dispose-as, leave-as}
 use Rattle.engine.specs.Words.{ofWords, program-length, procedure-fits, body-few, past-end, fetch-as}
 
--- the engine's move: `lookup` and `change` for the actions on cells, and `step` for every other command
-abbrev pub ofAfter : After → List (Machine.Cell ℕ) → Changed
-ofAfter a ds = changed (record { next = a .next; store = a .store; cells = ds }) (a .pool) (a .count)
-
+-- the engine's move: Changed's `lookupIn` and `changeIn` for the actions on cells, and `step` for every other command
 unfoldable pub engineIn : List ℕ → Control → Command → Bool → List ℕ → List (Machine.Cell ℕ) → List ℕ → List ℕ → ℕ → Changed
 engineIn code c m known inputs ds store pool count =
     if? (eqb (m .kind) 4) (ofAfter (lookupIn code c m ds store pool count) ds)

@@ -1,33 +1,25 @@
 -- A path has at most 32 cells, since a 33rd is error 7: from a state with no more, every command comes to states with no more. Over any
 -- model of terms. Assumes nothing.
-use Prim.Native.Nat.{ℕ, suc, _≤_}
+use Prim.Native.Nat.{ℕ, _≤_}
 use mathlib.Core.Bool.{Bool, true, false}
 use mathlib.Core.Path.{_≡_, refl}
 use mathlib.Core.List.{List, [], _∷_}
 use native.Mathlib.Omega.{arith}
 use lib.ListN.{length}
-use lib.Dec.{ltb, leb, eqb}
+use lib.Dec.{ltb, leb}
 use borrow.Author.Tests.{leb-true}
 use Rattle.gil.specs.Tree.{Cmd, assign, ifgoto, call, lookup, mutate, dispose, uSym, iSym, return, fail, vanish}
 use Rattle.gil.specs.Names.{Program}
 use Rattle.gil.specs.Values.{Value, const, term, number, boolean, location, sameSort, booleans}
 use Rattle.gil.specs.Values as Values
-use Rattle.gil.specs.Machine.{Model, Act, Val, Caller, Cell, State, End, Next, on, ends, fork, Result, ok, err, andThen, _>>=_, _>>_, give, stop, must, there, making, eval, theLocation, jump, exec, settled, move, commandAt, frames, steer, goto, onward, assigned, opened, closed, returnsTo, withCells, cellAt, putCell, withoutCells}
-use Rattle.gil.specs.Theory.Tests.{chosen}
+use Rattle.gil.specs.Machine.{Model, Act, Val, Caller, Cell, State, End, Next, on, ends, fork, Result, ok, err, andThen, _>>=_, _>>_, give, stop, must, there, making, eval, theLocation, jump, exec, settled, move, commandAt, frames, steer, goto, onward, assigned, opened, closed, returnsTo, withCells, cellAt, putCell}
+use Rattle.cells.specs.Laws.{without-fewer}
 
 module _ {T : Type 0} where
   pub data FewNext : Next T → Type 0 where
     fewOn : {s : State T} → length (s .cells) ≤ 32 → FewNext (on s)
     fewEnd : {e : End T} → FewNext (ends e)
     fewFork : {t : T} {a b : State T} → length (a .cells) ≤ 32 → length (b .cells) ≤ 32 → FewNext (fork t a b)
-
-  without-few : (l : ℕ) (cs : List (Cell T)) → length (withoutCells l cs) ≤ length cs
-  unfolding withoutCells
-  without-few l [] = omega arith
-  without-few l (c ∷ cs) =
-      chosen (λ (x : List (Cell T)). length x ≤ suc (length cs)) (eqb l (c .location))
-      (λ e. omega (arith, without-few l cs))
-      (λ e. omega (arith, without-few l cs))
 
 -- what an action comes to
 module _ {W T : Type 0} where
@@ -81,7 +73,7 @@ module _ (M : Model) (p : Program) (s : State (M .Term)) (few : length (s .cells
       (λ e. fewOk (fewOn (leb-true (length (putCell l q u (s .cells))) 32 e))))))
   exec-few (dispose x e) w =
       then-few (eval M (s .variables) e w) _
-      (λ v w. then-few (theLocation M v w) _ (λ l w. fewOk (fewOn (omega (arith, without-few l (s .cells))))))
+      (λ v w. then-few (theLocation M v w) _ (λ l w. fewOk (fewOn (omega (arith, without-fewer l (s .cells))))))
   exec-few (uSym x j) w = must-few (ltb (s .control .locations) 16) 6 _ w (λ e. fewOk (fewOn few))
   exec-few (iSym x j) w =
       must-few (ltb (s .control .inputs) 16) 5 _ w

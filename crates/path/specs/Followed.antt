@@ -2,16 +2,14 @@
 use Prim.Native.Nat.{ℕ, zero, suc, _+_, _*_, _%_}
 use mathlib.Core.Bool.{Bool, true, false}
 use mathlib.Core.List.{List}
-use lib.Dec.{ltb, leb, eqb}
+use lib.Dec.{leb}
 use Rattle.gil.specs.Machine as Machine
 use Rattle.values.specs.Packed.{if?}
-use Rattle.cells.specs.declared.Cell.{Cell}
 use Rattle.commands.specs.declared.Control.{Control}
-use Rattle.commands.specs.declared.Command.{Command}
 use Rattle.commands.specs.declared.Next.{Next}
 use Rattle.commands.specs.declared.Next.the-variants.{On, Returned, Failed, Vanished, Error, Fork}
-use Rattle.commands.specs.Stepped.{After, codeWord, fetchIn, stepIn}
-use Rattle.actions.specs.Changed.{Changed, lookupIn}
+use Rattle.commands.specs.Stepped.{codeWord, fetchIn}
+use Rattle.actions.specs.Changed.{Changed}
 use Rattle.engine.specs.Laws.{engineIn}
 use Rattle.rows.specs.declared.Head.{Head}
 use Rattle.path.specs.declared.Outcome.{Outcome}
@@ -105,15 +103,6 @@ unfoldable pub followIn : (Spot → Changed) → ℕ → ℕ → Spot → Stoppe
 followIn one zero n s = cutAt n s
 followIn one (suc k) n s =
     if? (goesIn (one s .kept .next) (one s .count)) (followIn one k (suc n) (spotAfter s (one s))) (stoppedAt n s (one s))
-
--- `mutate` and `dispose`
-unfoldable pub changesIn : ℕ → Bool
-changesIn kind = if? (ltb kind 5) false (ltb kind 7)
-
--- a command that leaves the cells as they are
-unfoldable pub stillIn : List ℕ → Control → Command → Bool → List ℕ → List (Machine.Cell ℕ) → List ℕ → List ℕ → ℕ → After
-stillIn code c m known inputs ds store pool count =
-    if? (eqb (m .kind) 4) (lookupIn code c m ds store pool count) (stepIn code c m known inputs store pool count)
 
 -- one command on a program's words: the engine's move
 unfoldable pub oneIn : List ℕ → Bool → List ℕ → Spot → Changed

@@ -1,4 +1,5 @@
 pub mod Followed
+pub mod Progressed
 pub mod Turns
 pub mod Few
 pub mod Laws

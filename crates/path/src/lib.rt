@@ -1,14 +1,15 @@
 // A path on a program's words, from one fork to the next: commands one after another, by the one engine, for the plain run and for the
-// exploration. Control goes by value, the store, the pool and the count of terms are lent, and only `mutate` and `dispose` pass the cells on.
+// exploration. Control goes by value; the store, the pool, the count of terms and the cells are lent.
 // specs/Followed.antt has the words; specs/Laws.antt shows that on a program's words they are document 01's path and row.
 ghost use mathlib.Core.Path.{_≡_};
-ghost use Prim.Native.Nat.{_≤_, _-_, _+_, _*_};
-ghost use lib.ListN.{length};
+ghost use mathlib.Core.Bool.{true};
+ghost use Prim.Native.Nat.{_-_, _≤_};
 ghost use Rattle.cells.specs.Held.{heldIn};
-ghost use Rattle.commands.specs.Stepped.{after, codeWord};
-ghost use Rattle.commands.specs.declared.Next.the-variants.{Vanished};
-ghost use mathlib.Core.Bool.{true, false};
-ghost use Rattle.path.specs.Followed.{goesIn, whereIn, changesIn, stillIn, oneIn, followIn, endOf, endedIn, headIn, spot, stopped};
+ghost use Rattle.cells.specs.Served.{heldBy, Tidy};
+ghost use Rattle.commands.specs.Stepped.{codeWord};
+ghost use Rattle.path.specs.Followed.{goesIn, whereIn, oneIn, followIn, endOf, endedIn, headIn, spot, stopped};
+ghost use Rattle.path.specs.Progressed.{actsIn, nothingIn, begunIn, haltedIn, stopIn, came, askedIn, wentTo, concludedIn, Ready, Advanced, Onward};
+use cells::Ask;
 use cells::CELLS;
 use cells::Cell;
 use code::CODE_WORDS;
@@ -17,6 +18,7 @@ use commands::Control;
 use commands::Next;
 use evaluate::STORE_WORDS;
 use rows::Head;
+use values::Location;
 
 pub const MOST_TERMS: u32 = 2048;
 
@@ -57,35 +59,186 @@ fn target(next: Next, c: Control) -> Control
     }
 }
 
-// `mutate` and `dispose`
-fn changes(kind: u32) -> bool
-    ensures { λ r. ⌜ r ≡ changesIn kind ⌝ }
+// The three actions on cells
+fn acts(kind: u32) -> bool
+    ensures { λ r. ⌜ r ≡ actsIn kind ⌝ }
 {
-    if kind < 5 { false } else { kind < 7 }
+    if kind < 4 { false } else { kind < 7 }
 }
 
-// A command that leaves the cells as they are. `lookup` reads them; they go in and do not come back, so that nothing has to be copied.
-fn still(
+// How far a path has come. It waits for what the cells give to `ask`, which goes to the variable `target`; where nothing is asked, kind 0, it
+// stands before a command. Or it has stopped, as `Stop` says. In this order of the fields the compiler keeps most of them in registers.
+pub struct Progress {
+    pub ask: Ask,
+    pub held: usize,
+    pub steps: u32,
+    pub target: u32,
+    pub control: Control,
+    pub next: Next,
+    pub waits: bool,
+    pub cut: bool,
+}
+
+fn nothing() -> Ask
+    ensures { λ r. ⌜ r ≡ nothingIn ⌝ }
+{
+    Ask {
+        kind: 0,
+        location: Location(0),
+        property: 0,
+        value: 0,
+    }
+}
+
+fn begun(control: Control, steps: u32, held: usize) -> Progress
+    ensures { λ r. ⌜ r ≡ begunIn control steps held ⌝ }
+{
+    Progress {
+        ask: nothing(),
+        held,
+        steps,
+        target: 0,
+        control,
+        next: Next::Vanished,
+        waits: true,
+        cut: false,
+    }
+}
+
+fn ended(cut: bool, next: Next, control: Control, steps: u32, held: usize) -> Progress
+    ensures { λ r. ⌜ r ≡ haltedIn cut next control steps held ⌝ }
+{
+    Progress {
+        ask: nothing(),
+        held,
+        steps,
+        target: 0,
+        control,
+        next,
+        waits: false,
+        cut,
+    }
+}
+
+// An action, up to what it asks of the cells
+fn asked(
     code: &[u32; CODE_WORDS],
-    c: Control,
+    control: Control,
     m: Command,
+    steps: u32,
+    held: usize,
+    store: &[u64; STORE_WORDS],
+    pool: &mut [u8],
+    count: &mut u32,
+) -> Progress
+    ensures { λ r. ⌜ came r (now (store .entry)) (now (pool .exit)) (now (count .exit)) ≡ askedIn (now (code .entry)) control m steps held (now (store .entry)) (now (pool .entry)) (now (count .entry)) ⌝ }
+{
+    let a = actions::ask(code, control, m, store, pool, count);
+    let ask = a.ask;
+    if ask.kind == 0 {
+        return ended(false, Next::Error(a.error), control, steps, held);
+    }
+    Progress {
+        ask,
+        held,
+        steps,
+        target: m.target,
+        control,
+        next: Next::Vanished,
+        waits: true,
+        cut: false,
+    }
+}
+
+// The action that a path waits for, done: the path stands before its next command, or has stopped
+fn concluded(
+    s: Progress,
+    given: u64,
+    held: usize,
+    store: &mut [u64; STORE_WORDS],
+    count: u32,
+) -> Progress
+    ensures { λ r. ⌜ wentTo r (now (store .exit)) ≡ concludedIn s given held (now (store .entry)) count ⌝ }
+{
+    let ask = s.ask;
+    let c = s.control;
+    if ask.kind == 0 {
+        return begun(c, s.steps, held);
+    }
+    let next = actions::conclude(c, ask.kind, s.target, given, store);
+    if goes(next, count) {
+        return begun(
+            target(next, c),
+            std::num::wrapping_add_u32(s.steps, 1),
+            held,
+        );
+    }
+    ended(false, next, c, s.steps, held)
+}
+
+// Commands in a row, until one asks something of the cells or does anything but go on, or the steps are used up
+fn onward(
+    code: &[u32; CODE_WORDS],
+    s: Progress,
+    budget: u32,
     known: bool,
     inputs: &[u32; 16],
-    held: usize,
-    cells: [Cell; CELLS],
     store: &mut [u64; STORE_WORDS],
     pool: &mut [u8],
     count: &mut u32,
-) -> Next
-    ensures { λ r. ⌜ after r (now (store .exit)) (now (pool .exit)) (now (count .exit)) ≡ stillIn (now (code .entry)) c m known (now (inputs .entry)) (heldIn held cells) (now (store .entry)) (now (pool .entry)) (now (count .entry)) ⌝ }
+) -> Progress
+    ensures { λ r. ⌜ Onward (oneIn (now (code .entry)) known (now (inputs .entry))) budget (s .control) (s .steps) (s .held) (now (store .entry)) (now (pool .entry)) (now (count .entry)) r (now (store .exit)) (now (pool .exit)) (now (count .exit)) ⌝ }
 {
-    if m.kind == 4 {
-        return actions::lookup(code, c, m, cells, held, store, pool, count);
+    let held = s.held;
+    let mut c = s.control;
+    let mut n = s.steps;
+    while n < budget {
+        let m = commands::fetch(code, c);
+        if acts(m.kind) {
+            return asked(code, c, m, n, held, store, pool, count);
+        }
+        let next = commands::step(code, c, m, known, inputs, store, pool, count);
+        if !goes(next, *count) {
+            return ended(false, next, c, n, held);
+        }
+        c = target(next, c);
+        n += 1;
     }
-    commands::step(code, c, m, known, inputs, store, pool, count)
+    ended(true, Next::Vanished, c, n, held)
 }
 
-// Commands in a row, until one does anything but go on or the steps are used up
+fn left(a: Ask, held: usize, kept: usize) -> usize
+    ensures { λ r. ⌜ r ≡ heldBy a held kept ⌝ }
+{
+    if a.kind == 6 { kept } else { held }
+}
+
+// A path that waits, from what the cells gave to where it waits again or stops. Of the cells `held` are in use, or `kept` where some were taken out.
+fn advance(
+    code: &[u32; CODE_WORDS],
+    s: Progress,
+    given: u64,
+    held: usize,
+    kept: usize,
+    budget: u32,
+    known: bool,
+    inputs: &[u32; 16],
+    store: &mut [u64; STORE_WORDS],
+    pool: &mut [u8],
+    count: &mut u32,
+) -> Progress
+    ensures { λ r. ⌜ (s .waits ≡ true → Ready budget s → Advanced (oneIn (now (code .entry)) known (now (inputs .entry))) budget s given (heldBy (s .ask) held kept) (now (store .entry)) (now (pool .entry)) (now (count .entry)) r (now (store .exit)) (now (pool .exit)) (now (count .exit))) ⌝ }
+{
+    let ask = s.ask;
+    let t = concluded(s, given, left(ask, held, kept), store, *count);
+    if t.waits {
+        return onward(code, t, budget, known, inputs, store, pool, count);
+    }
+    t
+}
+
+// Commands in a row, until one does anything but go on or the steps are used up. The cells stand in one array, which is lent to the search,
+// the insert and the removal of each action; nothing else is done with them, and none is copied but here and at the end.
 pub fn follow(
     code: &[u32; CODE_WORDS],
     from: Control,
@@ -99,61 +252,46 @@ pub fn follow(
     pool: &mut [u8],
     count: &mut u32,
 ) -> Stop
-    requires { ⌜ held ≤ 32 ⌝ }
+    requires { ⌜ Tidy held cells ⌝ }
     ensures { λ r. ⌜ stopped r (now (store .exit)) (now (pool .exit)) (now (count .exit)) ≡ followIn (oneIn (now (code .entry)) known (now (inputs .entry))) (budget - taken) taken (spot from (now (store .entry)) (heldIn held cells) (now (pool .entry)) (now (count .entry))) ⌝ }
-    ensures { λ r. ⌜ (r .held ≤ 32) × (length (r .cells) ≡ 32) ⌝ }
+    ensures { λ r. ⌜ Tidy (r .held) (r .cells) ⌝ }
 {
-    let mut c = from;
-    let mut n = taken;
-    let mut used = held;
     let mut memory = cells;
-    while n < budget {
-        let m = commands::fetch(code, c);
-        if changes(m.kind) {
-            let a = actions::change(code, c, m, memory, used, store, pool, count);
-            let next = a.next;
-            used = a.held;
-            let left = a.cells;
-            memory = left;
-            if !goes(next, *count) {
-                return stopped_at(next, c, n, used, memory);
-            }
-            c = target(next, c);
-            n += 1;
-            continue;
-        }
-        let next = still(code, c, m, known, inputs, used, memory, store, pool, count);
-        if !goes(next, *count) {
-            return stopped_at(next, c, n, used, memory);
-        }
-        c = target(next, c);
-        n += 1;
+    let mut s = begun(from, taken, held);
+    while s.waits {
+        let a = s.ask;
+        let f = cells::search(&memory, s.held, a.location, a.property);
+        let d = cells::decide(a, f, s.held);
+        cells::insert(&mut memory, d.at, d.last, d.cell);
+        let kept = cells::remove(&mut memory, d.among, a.location);
+        s = advance(
+            code,
+            s,
+            d.given,
+            d.held,
+            kept,
+            budget,
+            known,
+            inputs,
+            store,
+            pool,
+            count,
+        );
     }
-    used_up(c, n, used, memory)
+    stop_of(s, memory)
 }
 
-fn stopped_at(next: Next, control: Control, steps: u32, held: usize, cells: [Cell; CELLS]) -> Stop
-    ensures { λ r. ⌜ (r ≡ record { cut = false; next = next; control = control; steps = steps; held = held; cells = cells }) × (length cells ≡ 32) ⌝ }
+fn stop_of(s: Progress, cells: [Cell; CELLS]) -> Stop
+    ensures { λ r. ⌜ r ≡ stopIn s cells ⌝ }
 {
+    let next = s.next;
+    let control = s.control;
     Stop {
-        cut: false,
+        cut: s.cut,
         next,
         control,
-        steps,
-        held,
-        cells,
-    }
-}
-
-fn used_up(control: Control, steps: u32, held: usize, cells: [Cell; CELLS]) -> Stop
-    ensures { λ r. ⌜ (r ≡ record { cut = true; next = Vanished; control = control; steps = steps; held = held; cells = cells }) × (length cells ≡ 32) ⌝ }
-{
-    Stop {
-        cut: true,
-        next: Next::Vanished,
-        control,
-        steps,
-        held,
+        steps: s.steps,
+        held: s.held,
         cells,
     }
 }

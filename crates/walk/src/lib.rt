@@ -3,9 +3,8 @@
 // written into its own part of the lent table, and terms into the lent pool in the order made. specs/Walked.antt has the words;
 // specs/Laws.antt shows that on a program's words they are document 01's table and pool.
 ghost use mathlib.Core.Path.{_≡_};
-ghost use Prim.Native.Nat.{_≤_};
-ghost use lib.ListN.{length};
 ghost use Rattle.cells.specs.Held.{heldIn};
+ghost use Rattle.cells.specs.Served.{Tidy};
 ghost use Rattle.walk.specs.Walked.{reached, finished, finishIn, conditionOn, fullIn, conditionsWith, branchIn, walksIn, Begins, explored, exploreIn};
 use cells::CELLS;
 use cells::Cell;
@@ -46,7 +45,7 @@ fn finish(
     table: &mut [u8],
     rows: &mut u32,
 ) -> u32
-    requires { ⌜ (f .held ≤ 32) × (length (f .cells) ≡ 32) ⌝ }
+    requires { ⌜ Tidy (f .held) (f .cells) ⌝ }
     ensures { λ r. ⌜ finished r (now (rows .exit)) (now (table .exit)) ≡ finishIn (now (code .entry)) branches (now (conditions .entry)) (now (rows .entry)) (now (table .entry)) (f .cut) (f .next) (f .control) (f .steps) (now (store .entry)) (heldIn (f .held) (f .cells)) ⌝ }
 {
     let number = *rows;
@@ -111,7 +110,7 @@ fn walk(
     pool: &mut [u8],
     count: &mut u32,
 ) -> u32
-    requires { ⌜ from .held ≤ 32 ⌝ }
+    requires { ⌜ Tidy (from .held) cells ⌝ }
     ensures { λ r. ⌜ reached r (now (rows .exit)) (now (table .exit)) (now (pool .exit)) (now (count .exit)) ≡ walksIn (now (code .entry)) budgets from conditions (now (begun .entry)) cells (now (rows .entry)) (now (table .entry)) (now (pool .entry)) (now (count .entry)) ⌝ }
 {
     let mut store = *begun;

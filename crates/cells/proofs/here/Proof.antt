@@ -1,5 +1,4 @@
 -- `cells::here` meets its contract. Assumes nothing.
-use mathlib.Core.Path.{_≡_, refl, sym, _∙_, ap}
 use borrow.Author.Tests.{lt-ltb, le-ltb}
 use Rattle.cells.specs.Held.{hits}
 use borrow.Author.Needs.{needs}

@@ -1,5 +1,6 @@
 -- `run::run` meets its contract. Assumes nothing.
 use lib.ListN.{drop, length-append, length-drop}
+use Rattle.cells.specs.Served.{no-cells}
 use Rattle.run.specs.Ran.{answers}
 use native.Mathlib.Omega.{arith}
 use mathlib.Core.Path.{_∙_, _≡_, sym, refl}
@@ -52,7 +53,7 @@ slice-aggregate-follow c = search needs
 
 -- src/lib.rt:23:9
 follow-requires : tie.Need-follow-requires
-follow-requires c κs = search needs
+follow-requires c κs = no-cells _ (search needs)
 
 -- src/lib.rt:39:9
 head-requires : tie.Need-head-requires
@@ -68,7 +69,7 @@ same-length c = omega (arith, c .before .before .write-row .kept, c .before .bef
 
 -- src/lib.rt:12:1
 returns-2 : tie.Need-returns-2
-returns-2 c = (λ h. answers _ _ _ _ (c .before .before .before .before .before .before .before .before .before .before .follow .result) h (c .before .before .before .before .before .before .before .before .before .before .before .before .before .before .before .before .before .before .before .zero .ensures) (c .before .before .before .before .before .before .before .before .before .before .before .before .before .before .before .start .ensures) (c .before .before .before .before .before .before .before .before .before .before .before .before .before .before .before .before .start-store .ensures) (c .before .before .before .before .before .before .before .before .before .before .follow .ensures .0) (c .before .before .before .before .before .before .before .before .before .before .follow .ensures .1 .0) (c .before .before .before .before .before .before .before .before .before .before .follow .ensures .1 .1) (c .before .before .before .before .before .before .head .ensures) (c .before .before .write-row .ensures), λ h. absurd (omega (arith, c .before .before .before .before .before .before .before .before .before .before .before .before .before .before .before .before .before .before .before .before .before .if1 .left)))
+returns-2 c = (λ h. answers _ _ _ _ (c .before .before .before .before .before .before .before .before .before .before .follow .result) h (c .before .before .before .before .before .before .before .before .before .before .before .before .before .before .before .before .before .before .before .zero .ensures) (c .before .before .before .before .before .before .before .before .before .before .before .before .before .before .before .start .ensures) (c .before .before .before .before .before .before .before .before .before .before .before .before .before .before .before .before .start-store .ensures) (c .before .before .before .before .before .before .before .before .before .before .follow .ensures .0) (c .before .before .before .before .before .before .before .before .before .before .follow .ensures .1 .few) (c .before .before .before .before .before .before .before .before .before .before .follow .ensures .1 .whole) (c .before .before .before .before .before .before .head .ensures) (c .before .before .write-row .ensures), λ h. absurd (omega (arith, c .before .before .before .before .before .before .before .before .before .before .before .before .before .before .before .before .before .before .before .before .before .if1 .left)))
 
 pub run-spec : {M : Type 1} → statement M
 run-spec =

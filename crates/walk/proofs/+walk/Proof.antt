@@ -69,121 +69,121 @@ claims t = (
   walk.Post,
 )
 
--- src/lib.rt:118:9
+-- src/lib.rt:117:9
 walk-follow-requires : (t : ℕ) → walk-lts.Need-follow-requires (claims t) (walk-at t) walk.Post
 walk-follow-requires t c κs = search needs
 
--- src/lib.rt:131:8
+-- src/lib.rt:130:8
 walk-full-requires : (t : ℕ) → walk-lts.Need-full-requires (claims t) (walk-at t) walk.Post
 walk-full-requires t c κs = search needs
 
--- src/lib.rt:132:9
+-- src/lib.rt:131:9
 walk-same-length : (t : ℕ) → walk-lts.Need-same-length (claims t) (walk-at t) walk.Post
 walk-same-length t c = omega (arith, c .before .before .before .before .before .follow .kept)
 
--- src/lib.rt:132:9
+-- src/lib.rt:131:9
 walk-returns : (t : ℕ) → walk-lts.Need-returns (claims t) (walk-at t) walk.Post
 walk-returns t c = pool-full _ _ _ _ _ _ _ _ _ _ (c .before .before .before .before .before .follow .result) (c .before .before .before .before .before .follow .ensures .0) (c .before .full .ensures) (c .if1 .taken)
 
--- src/lib.rt:135:20
+-- src/lib.rt:134:20
 walk-enum-known-next : (t : ℕ) → walk-lts.Need-enum-known-next (claims t) (walk-at t) walk.Post
 walk-enum-known-next t c = c .match .keys1
 
--- src/lib.rt:136:9
+-- src/lib.rt:135:9
 walk-finish-requires : (t : ℕ) → walk-lts.Need-finish-requires (claims t) (walk-at t) walk.Post
-walk-finish-requires t c κs = (c .before .before .before .before .before .before .before .before .before .before .follow .ensures .1 .0, c .before .before .before .before .before .before .before .before .before .before .follow .ensures .1 .1)
+walk-finish-requires t c κs = c .before .before .before .before .before .before .before .before .before .before .follow .ensures .1
 
--- src/lib.rt:136:9
+-- src/lib.rt:135:9
 walk-same-length-2 : (t : ℕ) → walk-lts.Need-same-length-2 (claims t) (walk-at t) walk.Post
 walk-same-length-2 t c = omega (arith, c .before .before .finish .kept)
 
--- src/lib.rt:136:9
+-- src/lib.rt:135:9
 walk-same-length-3 : (t : ℕ) → walk-lts.Need-same-length-3 (claims t) (walk-at t) walk.Post
 walk-same-length-3 t c = omega (arith, c .before .before .before .before .before .before .before .before .before .before .before .before .before .follow .kept)
 
--- src/lib.rt:136:9
+-- src/lib.rt:135:9
 walk-returns-2 : (t : ℕ) → walk-lts.Need-returns-2 (claims t) (walk-at t) walk.Post
 walk-returns-2 t c = a-row _ _ _ _ _ _ _ _ _ _ (c .before .before .before .before .before .before .before .before .before .before .before .before .before .follow .result) (c .before .before .before .before .before .before .before .before .before .before .before .before .before .follow .ensures .0) (c .before .before .before .before .before .before .before .before .before .full .ensures) (c .before .before .before .before .before .before .before .before .if1 .left) (no-fork _ (c .before .before .before .before .before .before .before .match .keys2)) (c .before .before .finish .ensures)
 
--- src/lib.rt:139:9
+-- src/lib.rt:138:9
 walk-finish-requires-2 : (t : ℕ) → walk-lts.Need-finish-requires-2 (claims t) (walk-at t) walk.Post
-walk-finish-requires-2 t c κs = (c .before .before .before .before .before .before .before .before .before .before .before .before .before .before .before .follow .ensures .1 .0, c .before .before .before .before .before .before .before .before .before .before .before .before .before .before .before .follow .ensures .1 .1)
+walk-finish-requires-2 t c κs = c .before .before .before .before .before .before .before .before .before .before .before .before .before .before .before .follow .ensures .1
 
--- src/lib.rt:139:9
+-- src/lib.rt:138:9
 walk-same-length-4 : (t : ℕ) → walk-lts.Need-same-length-4 (claims t) (walk-at t) walk.Post
 walk-same-length-4 t c = omega (arith, c .before .before .finish2 .kept)
 
--- src/lib.rt:139:9
+-- src/lib.rt:138:9
 walk-same-length-5 : (t : ℕ) → walk-lts.Need-same-length-5 (claims t) (walk-at t) walk.Post
 walk-same-length-5 t c = omega (arith, c .before .before .before .before .before .before .before .before .before .before .before .before .before .before .before .before .before .before .follow .kept)
 
--- src/lib.rt:139:9
+-- src/lib.rt:138:9
 walk-returns-3 : (t : ℕ) → walk-lts.Need-returns-3 (claims t) (walk-at t) walk.Post
 walk-returns-3 t c = no-branch-left _ _ _ _ _ _ _ _ _ _ (c .before .before .before .before .before .before .before .before .before .before .before .before .before .before .before .before .before .before .follow .result) (c .before .before .before .before .before .before .before .before .before .before .before .before .before .before .before .before .before .before .follow .ensures .0) (c .before .before .before .before .before .before .before .before .before .before .before .before .before .before .full .ensures) (c .before .before .before .before .before .before .before .before .before .before .before .before .before .if1 .left) (c .before .before .before .before .before .before .before .before .before .before .before .next .given .1) (c .before .before .before .before .before .before .before .if2 .taken) (c .before .before .finish2 .ensures)
 
--- src/lib.rt:141:18
+-- src/lib.rt:140:18
 walk-add-deeper : (t : ℕ) → walk-lts.Need-add-deeper (claims t) (walk-at t) walk.Post
 walk-add-deeper t c = omega (arith, c .before .if2 .left)
 
--- src/lib.rt:143:59
+-- src/lib.rt:142:59
 walk-condition-requires : (t : ℕ) → walk-lts.Need-condition-requires (claims t) (walk-at t) walk.Post
 walk-condition-requires t c κs = search needs
 
--- src/lib.rt:143:9
+-- src/lib.rt:142:9
 walk-with-condition-requires : (t : ℕ) → walk-lts.Need-with-condition-requires (claims t) (walk-at t) walk.Post
 walk-with-condition-requires t c κs = search needs
 
--- src/lib.rt:147:9
+-- src/lib.rt:146:9
 walk-waiting-requires : (t : ℕ) → walk-lts.Need-waiting-requires (claims t) (walk-at t) walk.Post
 walk-waiting-requires t c κs = search needs
 
--- src/lib.rt:144:9
+-- src/lib.rt:143:9
 walk-walk-requires : (t : ℕ) → walk-lts.Need-walk-requires (claims t) (walk-at t) walk.Post
 unfolding branchIn
 walk-walk-requires t c κs = let e : c .before .before .before .before .before .waiting .result .branches ≡ c .before .before .before .before .before .before .before .before .before .before .before .before .before .before .before .before .before .before .before .before .before .before .before .before .before .before .before .before .before .args .from .branches + 1 = ap (λ (b : Branch). b .branches) (c .before .before .before .before .before .waiting .ensures) in
     let h : c .before .before .before .before .before .waiting .result .held ≡ c .before .before .before .before .before .before .before .before .before .before .before .before .before .before .before .before .before .before .before .before .before .follow .result .held = ap (λ (b : Branch). b .held) (c .before .before .before .before .before .waiting .ensures) in
-    (omega (arith, e, c .before .before .before .before .before .before .before .before .before .before .before .before .before .before .before .before .before .before .before .before .before .before .before .before .before .before .before .before .before .pre .0, c .before .before .before .before .before .before .before .before .before .before .if2 .left), rw h (c .before .before .before .before .before .before .before .before .before .before .before .before .before .before .before .before .before .before .before .before .before .follow .ensures .1 .0))
+    (omega (arith, e, c .before .before .before .before .before .before .before .before .before .before .before .before .before .before .before .before .before .before .before .before .before .before .before .before .before .before .before .before .before .pre .0, c .before .before .before .before .before .before .before .before .before .before .if2 .left), rw h (c .before .before .before .before .before .before .before .before .before .before .before .before .before .before .before .before .before .before .before .before .before .follow .ensures .1))
 
--- src/lib.rt:157:9
+-- src/lib.rt:156:9
 walk-same-length-6 : (t : ℕ) → walk-lts.Need-same-length-6 (claims t) (walk-at t) walk.Post
 walk-same-length-6 t c = omega (arith, c .before .before .before .before .before .walk .kept)
 
--- src/lib.rt:157:9
+-- src/lib.rt:156:9
 walk-same-length-7 : (t : ℕ) → walk-lts.Need-same-length-7 (claims t) (walk-at t) walk.Post
 walk-same-length-7 t c = omega (arith, c .before .before .before .before .before .walk .kept, c .before .before .before .before .before .before .before .before .before .before .before .before .before .before .before .before .before .before .before .before .before .before .before .before .before .before .before .follow .kept)
 
--- src/lib.rt:157:9
+-- src/lib.rt:156:9
 walk-returns-4 : (t : ℕ) → walk-lts.Need-returns-4 (claims t) (walk-at t) walk.Post
 walk-returns-4 t c = first-refused _ _ _ _ _ _ _ _ _ _ (c .before .before .before .before .before .before .before .before .before .before .before .before .before .before .before .before .before .before .before .before .before .before .before .before .before .before .before .follow .result) (c .before .before .before .before .before .before .before .before .before .before .before .before .before .before .before .before .before .before .before .before .before .before .before .before .before .before .before .follow .ensures .0) (c .before .before .before .before .before .before .before .before .before .before .before .before .before .before .before .before .before .before .before .before .before .before .before .full .ensures) (c .before .before .before .before .before .before .before .before .before .before .before .before .before .before .before .before .before .before .before .before .before .before .if1 .left) (c .before .before .before .before .before .before .before .before .before .before .before .before .before .before .before .before .before .before .before .before .next .given .1) (c .before .before .before .before .before .before .before .before .before .before .before .before .before .before .before .before .if2 .left) (c .before .before .before .before .before .before .before .before .before .before .before .before .before .condition .ensures) (c .before .before .before .before .before .before .before .before .before .before .before .before .with-condition .ensures) (c .before .before .before .before .before .before .before .before .before .before .before .waiting .ensures) (c .before .before .before .before .before .walk .ensures) (c .if3 .taken)
 
--- src/lib.rt:159:59
+-- src/lib.rt:158:59
 walk-condition-requires-2 : (t : ℕ) → walk-lts.Need-condition-requires-2 (claims t) (walk-at t) walk.Post
 walk-condition-requires-2 t c κs = search needs
 
--- src/lib.rt:159:9
+-- src/lib.rt:158:9
 walk-with-condition-requires-2 : (t : ℕ) → walk-lts.Need-with-condition-requires-2 (claims t) (walk-at t) walk.Post
 walk-with-condition-requires-2 t c κs = search needs
 
--- src/lib.rt:163:9
+-- src/lib.rt:162:9
 walk-waiting-requires-2 : (t : ℕ) → walk-lts.Need-waiting-requires-2 (claims t) (walk-at t) walk.Post
 walk-waiting-requires-2 t c κs = search needs
 
--- src/lib.rt:160:5
+-- src/lib.rt:159:5
 walk-walk-requires-2 : (t : ℕ) → walk-lts.Need-walk-requires-2 (claims t) (walk-at t) walk.Post
 unfolding branchIn
 walk-walk-requires-2 t c κs = let e : c .before .before .before .before .before .waiting2 .result .branches ≡ c .before .before .before .before .before .before .before .before .before .before .before .before .before .before .before .before .before .before .before .before .before .before .before .before .before .before .before .before .before .before .before .before .before .before .before .before .before .before .before .before .before .before .before .args .from .branches + 1 = ap (λ (b : Branch). b .branches) (c .before .before .before .before .before .waiting2 .ensures) in
     let h : c .before .before .before .before .before .waiting2 .result .held ≡ c .before .before .before .before .before .before .before .before .before .before .before .before .before .before .before .before .before .before .before .before .before .before .before .before .before .before .before .before .before .before .before .before .before .before .before .follow .result .held = ap (λ (b : Branch). b .held) (c .before .before .before .before .before .waiting2 .ensures) in
-    (omega (arith, e, c .before .before .before .before .before .before .before .before .before .before .before .before .before .before .before .before .before .before .before .before .before .before .before .before .before .before .before .before .before .before .before .before .before .before .before .before .before .before .before .before .before .before .before .pre .0, c .before .before .before .before .before .before .before .before .before .before .before .before .before .before .before .before .before .before .before .before .before .before .before .before .if2 .left), rw h (c .before .before .before .before .before .before .before .before .before .before .before .before .before .before .before .before .before .before .before .before .before .before .before .before .before .before .before .before .before .before .before .before .before .before .before .follow .ensures .1 .0))
+    (omega (arith, e, c .before .before .before .before .before .before .before .before .before .before .before .before .before .before .before .before .before .before .before .before .before .before .before .before .before .before .before .before .before .before .before .before .before .before .before .before .before .before .before .before .before .before .before .pre .0, c .before .before .before .before .before .before .before .before .before .before .before .before .before .before .before .before .before .before .before .before .before .before .before .before .if2 .left), rw h (c .before .before .before .before .before .before .before .before .before .before .before .before .before .before .before .before .before .before .before .before .before .before .before .before .before .before .before .before .before .before .before .before .before .before .before .follow .ensures .1))
 
--- src/lib.rt:102:1
+-- src/lib.rt:101:1
 walk-same-length-8 : (t : ℕ) → walk-lts.Need-same-length-8 (claims t) (walk-at t) walk.Post
 walk-same-length-8 t c = omega (arith, c .before .before .before .before .before .before .before .before .before .before .before .before .before .before .before .before .before .before .walk .kept, c .before .before .before .before .walk2 .kept)
 
--- src/lib.rt:102:1
+-- src/lib.rt:101:1
 walk-same-length-9 : (t : ℕ) → walk-lts.Need-same-length-9 (claims t) (walk-at t) walk.Post
 walk-same-length-9 t c = omega (arith, c .before .before .before .before .before .before .before .before .before .before .before .before .before .before .before .before .before .before .walk .kept, c .before .before .before .before .walk2 .kept, c .before .before .before .before .before .before .before .before .before .before .before .before .before .before .before .before .before .before .before .before .before .before .before .before .before .before .before .before .before .before .before .before .before .before .before .before .before .before .before .before .follow .kept)
 
--- src/lib.rt:102:1
+-- src/lib.rt:101:1
 walk-returns-5 : (t : ℕ) → walk-lts.Need-returns-5 (claims t) (walk-at t) walk.Post
 walk-returns-5 t c = both _ _ _ _ _ _ _ _ _ _ (c .before .before .before .before .before .before .before .before .before .before .before .before .before .before .before .before .before .before .before .before .before .before .before .before .before .before .before .before .before .before .before .before .before .before .before .before .before .before .before .before .follow .result) (c .before .before .before .before .before .before .before .before .before .before .before .before .before .before .before .before .before .before .before .before .before .before .before .before .before .before .before .before .before .before .before .before .before .before .before .before .before .before .before .before .follow .ensures .0) (c .before .before .before .before .before .before .before .before .before .before .before .before .before .before .before .before .before .before .before .before .before .before .before .before .before .before .before .before .before .before .before .before .before .before .before .before .full .ensures) (c .before .before .before .before .before .before .before .before .before .before .before .before .before .before .before .before .before .before .before .before .before .before .before .before .before .before .before .before .before .before .before .before .before .before .before .if1 .left) (c .before .before .before .before .before .before .before .before .before .before .before .before .before .before .before .before .before .before .before .before .before .before .before .before .before .before .before .before .before .before .before .before .before .next .given .1) (c .before .before .before .before .before .before .before .before .before .before .before .before .before .before .before .before .before .before .before .before .before .before .before .before .before .before .before .before .before .if2 .left) (c .before .before .before .before .before .before .before .before .before .before .before .before .before .before .before .before .before .before .before .before .before .before .before .before .before .before .condition .ensures) (c .before .before .before .before .before .before .before .before .before .before .before .before .before .before .before .before .before .before .before .before .before .before .before .before .before .with-condition .ensures) (c .before .before .before .before .before .before .before .before .before .before .before .before .before .before .before .before .before .before .before .before .before .before .before .before .waiting .ensures) (c .before .before .before .before .before .before .before .before .before .before .before .before .before .before .before .before .before .before .walk .ensures) (c .before .before .before .before .before .before .before .before .before .before .before .before .before .if3 .left) (c .before .before .before .before .before .before .before .before .before .before .before .before .condition2 .ensures) (c .before .before .before .before .before .before .before .before .before .before .before .with-condition2 .ensures) (c .before .before .before .before .before .before .before .before .before .before .waiting2 .ensures) (c .before .before .before .before .walk2 .ensures)
 

@@ -30,7 +30,7 @@ same-length c = search needs
 
 -- src/lib.rt:41:1
 returns-2 : tie.Need-returns-2
-returns-2 c = row-written _ _ _ _ _ _ _ _ _ (c .before .before .before .before .before .before .before .before .before .before .args .f .held) (c .before .before .before .before .before .before .before .before .before .before .args .f .cells) (c .before .before .before .before .before .before .before .if1 .left) (c .before .before .before .before .before .before .before .before .before .before .pre .1) (c .before .before .before .before .before .before .before .before .before .before .pre .0) (c .before .before .before .before .head .ensures) (c .before .before .finish-row .ensures)
+returns-2 c = row-written _ _ _ _ _ _ _ _ _ (c .before .before .before .before .before .before .before .before .before .before .args .f .held) (c .before .before .before .before .before .before .before .before .before .before .args .f .cells) (c .before .before .before .before .before .before .before .if1 .left) (c .before .before .before .before .before .before .before .before .before .before .pre .whole) (c .before .before .before .before .before .before .before .before .before .before .pre .few) (c .before .before .before .before .head .ensures) (c .before .before .finish-row .ensures)
 
 pub finish-spec : {M : Type 1} → statement M
 finish-spec =
