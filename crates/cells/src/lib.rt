@@ -147,29 +147,8 @@ pub struct Deed {
     pub given: u64,
 }
 
-// Nothing is put in: no place is from 1 up to 0
-fn unchanged(a: Ask, among: usize, held: usize, given: u64) -> Deed
-    ensures { λ r. ⌜ r ≡ doing a 1 0 among held given ⌝ }
-{
-    let location = a.location;
-    let cell = Cell {
-        location,
-        property: a.property,
-        value: a.value,
-    };
-    Deed {
-        at: 1,
-        last: 0,
-        cell,
-        among,
-        held,
-        given,
-    }
-}
-
-// The cell takes the place where it stands, or those behind its place move up
-fn put_in(a: Ask, at: usize, last: usize, held: usize, given: u64) -> Deed
-    ensures { λ r. ⌜ r ≡ doing a at last 0 held given ⌝ }
+fn doing(a: Ask, at: usize, last: usize, among: usize, held: usize, given: u64) -> Deed
+    ensures { λ r. ⌜ r ≡ doing a at last among held given ⌝ }
 {
     let location = a.location;
     let cell = Cell {
@@ -181,21 +160,29 @@ fn put_in(a: Ask, at: usize, last: usize, held: usize, given: u64) -> Deed
         at,
         last,
         cell,
-        among: 0,
+        among,
         held,
         given,
     }
 }
 
-// "`mutate` writes the cell, adding it if absent"; a thirty-third is not added
+// Nothing is put in: no place is from 1 up to 0
+fn unchanged(a: Ask, among: usize, held: usize, given: u64) -> Deed
+    ensures { λ r. ⌜ r ≡ doing a 1 0 among held given ⌝ }
+{
+    doing(a, 1, 0, among, held, given)
+}
+
+// "`mutate` writes the cell, adding it if absent": it takes the place where it stands, or those behind its place move up; a thirty-third is not
+// added
 fn mutated(a: Ask, f: Found, held: usize) -> Deed
     ensures { λ r. ⌜ r ≡ mutatedIn a f held ⌝ }
 {
     if here(f, held, a.location, a.property) {
-        return put_in(a, f.place, f.place, held, values::truth(true));
+        return doing(a, f.place, f.place, 0, held, values::truth(true));
     }
     if held < CELLS {
-        return put_in(a, f.place, held, held + 1, values::truth(true));
+        return doing(a, f.place, held, 0, held + 1, values::truth(true));
     }
     unchanged(a, 0, held, 0)
 }

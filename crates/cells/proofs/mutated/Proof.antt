@@ -10,7 +10,7 @@ use Rattle.cells.proofs.mutated.Tie as tie
 use Rattle.cells.proofs.mutated.Reads as reads
 use Rattle.cells.proofs.mutated.Lts as lts
 use Rattle.cells.proofs.here.Reads as here-reads
-use Rattle.cells.proofs.put_in.Reads as put-in-reads
+use Rattle.cells.proofs.doing.Reads as doing-reads
 use Rattle.cells.proofs.unchanged.Reads as unchanged-reads
 use Rattle.values.proofs.truth.Reads as truth-reads
 
@@ -23,30 +23,30 @@ truth-requires : tie.Need-truth-requires
 truth-requires c κs = search needs
 
 -- src/lib.rt:195:9
-put-in-requires : tie.Need-put-in-requires
-put-in-requires c κs = search needs
+doing-requires : tie.Need-doing-requires
+doing-requires c κs = search needs
 
 -- src/lib.rt:195:9
 returns : tie.Need-returns
 unfolding truthWord
-returns c = c .put-in .ensures ∙ ap (λ (g : ℕ). doing (c .before .before .before .before .args .a) (c .before .before .before .before .args .f .place) (c .before .before .before .before .args .f .place) 0 (c .before .before .before .before .args .held) g) (c .before .truth .ensures) ∙ sym (mutated-here (c .before .before .before .before .args .a) (c .before .before .before .before .args .f) (c .before .before .before .before .args .held) (sym (c .before .before .before .here .ensures) ∙ c .before .before .if1 .taken))
+returns c = c .doing .ensures ∙ ap (λ (g : ℕ). doing (c .before .before .before .before .args .a) (c .before .before .before .before .args .f .place) (c .before .before .before .before .args .f .place) 0 (c .before .before .before .before .args .held) g) (c .before .truth .ensures) ∙ sym (mutated-here (c .before .before .before .before .args .a) (c .before .before .before .before .args .f) (c .before .before .before .before .args .held) (sym (c .before .before .before .here .ensures) ∙ c .before .before .if1 .taken))
 
 -- src/lib.rt:198:41
-add-put-in : tie.Need-add-put-in
-add-put-in c = search needs
+add-doing : tie.Need-add-doing
+add-doing c = search needs
 
 -- src/lib.rt:198:51
 truth-requires-2 : tie.Need-truth-requires-2
 truth-requires-2 c κs = search needs
 
 -- src/lib.rt:198:9
-put-in-requires-2 : tie.Need-put-in-requires-2
-put-in-requires-2 c κs = search needs
+doing-requires-2 : tie.Need-doing-requires-2
+doing-requires-2 c κs = search needs
 
 -- src/lib.rt:198:9
 returns-2 : tie.Need-returns-2
 unfolding truthWord
-returns-2 c = c .put-in2 .ensures ∙ ap (λ (g : ℕ). doing (c .before .before .before .before .before .args .a) (c .before .before .before .before .before .args .f .place) (c .before .before .before .before .before .args .held) 0 (c .before .before .before .before .before .args .held + 1) g) (c .before .truth2 .ensures) ∙ sym (mutated-free (c .before .before .before .before .before .args .a) (c .before .before .before .before .before .args .f) (c .before .before .before .before .before .args .held) (sym (c .before .before .before .before .here .ensures) ∙ c .before .before .before .if1 .left) (c .before .before .if2 .taken))
+returns-2 c = c .doing2 .ensures ∙ ap (λ (g : ℕ). doing (c .before .before .before .before .before .args .a) (c .before .before .before .before .before .args .f .place) (c .before .before .before .before .before .args .held) 0 (c .before .before .before .before .before .args .held + 1) g) (c .before .truth2 .ensures) ∙ sym (mutated-free (c .before .before .before .before .before .args .a) (c .before .before .before .before .before .args .f) (c .before .before .before .before .before .args .held) (sym (c .before .before .before .before .here .ensures) ∙ c .before .before .before .if1 .left) (c .before .before .if2 .taken))
 
 -- src/lib.rt:200:5
 unchanged-requires : tie.Need-unchanged-requires
@@ -62,11 +62,11 @@ mutated-spec =
     (tie.spec
     here-requires
     truth-requires
-    put-in-requires
+    doing-requires
     returns
-    add-put-in
+    add-doing
     truth-requires-2
-    put-in-requires-2
+    doing-requires-2
     returns-2
     unchanged-requires
     returns-3)
