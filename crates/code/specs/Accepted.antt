@@ -85,7 +85,7 @@ properties-known ps = each-use cmdProperties ps (distinct-has (gather (λ p. gat
 
 -- a small program within the limits of refusal 5 and with the names of refusal 6
 pub numberProgram-well-formed :
-    (ps : List (Proc Name)) → Each ProcSmall ps → total procSize ps ≤ 16384 → Limited ps → Named ps → WellFormed (numberProgram ps)
+    (ps : List (Proc Name)) → Each ProcSmall ps → total procSize ps ≤ 8192 → Limited ps → Named ps → WellFormed (numberProgram ps)
 unfolding numberProgram allCommands procNames
 numberProgram-well-formed ps small size limited named =
     let qs = properties ps in
@@ -120,7 +120,7 @@ pub record Passed (s : List ℕ) (p : Program) : Type 0 where
   pub next : ℕ
   pub is : procedures s ≡ read procs next
   pub small : Each ProcSmall procs
-  pub size : total procSize procs ≤ 16384
+  pub size : total procSize procs ≤ 8192
   pub limited : Limited procs
   pub right : wrongNames procs ≡ false
   pub numbered : p ≡ numberProgram procs

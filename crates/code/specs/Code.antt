@@ -1,14 +1,20 @@
--- An accepted program as an array of 18,994 words, between the reader that writes it and the engine that reads it; no C caller sees it.
+-- An accepted program as an array of 10,802 words, between the reader that writes it and the engine that reads it; no C caller sees it.
 -- Words 0 and 1: the number of procedures, and which is `main`. From 2: three words for each of 16 procedures. From 50: five words for
--- each of 512 commands, all procedures' in order. From 2,610: the expressions in prefix form, two words a node. Assumes nothing.
-use Prim.Native.Nat.{ℕ, _+_}
+-- each of 512 commands, all procedures' in order. From 2,610: the expressions in prefix form, one word a node. Assumes nothing.
+use Prim.Native.Nat.{ℕ, _+_, _*_}
+use mathlib.Core.Bool.{true, false}
 use mathlib.Core.List.{List, [], _∷_, _++_}
 use lib.ListN.{length}
+use lib.Dec.{ltb}
 use Rattle.gil.specs.Tree.{Op, plus, minus, equal, less, and, or, Expr, num, bool, var, neg, bin, Cmd, assign, ifgoto, call, lookup, mutate, dispose, uSym, iSym, return, fail, vanish}
 use Rattle.gil.specs.Names.{gather, Procedure, Program}
 use Rattle.gil.specs.Layout.{bit, room}
 
--- a node: 1 number, 2 truth, 3 variable, 4 `not`, 5 to 10 the operators
+-- a node: its kind in the upper four bits, a number in the other 28. The kinds: 0 number, 1 variable, 2 truth, 3 a number of more than 28
+-- bits, which stands in the next word, 4 `not`, 5 to 10 the operators
+abbrev pub node : ℕ → ℕ → ℕ
+node kind w = 268435456 * kind + w
+
 unfoldable pub opWord : Op → ℕ
 opWord plus = 5
 opWord minus = 6
@@ -17,13 +23,16 @@ opWord less = 8
 opWord and = 9
 opWord or = 10
 
--- an expression's words: each node has its kind and its number, its variable or, for an operator, how many words its first operand takes
+unfoldable pub numberWords : ℕ → List ℕ
+numberWords n = elim (ltb n 268435456) [ true ↦ n ∷ [] | false ↦ node 3 0 ∷ n ∷ [] ]
+
+-- an expression's words: beside its kind a node has its number, its variable or, for an operator, how many words its first operand takes
 unfoldable pub exprWords : Expr ℕ → List ℕ
-exprWords (num n) = 1 ∷ n ∷ []
-exprWords (bool b) = 2 ∷ bit b ∷ []
-exprWords (var x) = 3 ∷ x ∷ []
-exprWords (neg e) = 4 ∷ 0 ∷ exprWords e
-exprWords (bin o a b) = opWord o ∷ length (exprWords a) ∷ (exprWords a ++ exprWords b)
+exprWords (num n) = numberWords n
+exprWords (bool b) = node 2 (bit b) ∷ []
+exprWords (var x) = node 1 x ∷ []
+exprWords (neg e) = node 4 0 ∷ exprWords e
+exprWords (bin o a b) = node (opWord o) (length (exprWords a)) ∷ (exprWords a ++ exprWords b)
 
 -- the words of a command's expressions
 unfoldable pub cmdNodes : Cmd ℕ → List ℕ
@@ -71,4 +80,4 @@ programWords p =
     (length (p .procedures) ∷ p .main ∷ [])
     ++ room 48 (procedureWords 0 (p .procedures))
     ++ room 2560 (commandWords 2610 (allCommands p))
-    ++ room 16384 (gather cmdNodes (allCommands p))
+    ++ room 8192 (gather cmdNodes (allCommands p))

@@ -51,6 +51,6 @@ pub record ProcedureFits (procedures : ℕ) (q : Procedure) : Type 0 where
 pub record WellFormed (p : Program) : Type 0 where
   pub fewProcedures : length (p .procedures) ≤ 16
   pub fewCommands : length (allCommands p) ≤ 512
-  pub fewNodes : length (gather cmdNodes (allCommands p)) ≤ 16384
+  pub fewNodes : length (gather cmdNodes (allCommands p)) ≤ 8192
   pub mainThere : p .main < length (p .procedures)
   pub procedures : Each (ProcedureFits (length (p .procedures))) (p .procedures)

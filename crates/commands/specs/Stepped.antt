@@ -36,7 +36,7 @@ zerosIn (suc k) at store = zerosIn k (at + 1) (putIn at 0 store)
 
 -- the program's words
 unfoldable pub codeWord : List ℕ → ℕ → ℕ
-codeWord code at = if? (ltb at 18994) (getD code at 0) 0
+codeWord code at = if? (ltb at 10802) (getD code at 0) 0
 
 -- where a path begins
 unfoldable pub startIn : List ℕ → Control
@@ -51,7 +51,7 @@ vanishCommand = record { kind = 11; target = 0; first = 0; other = 0; second = 0
 
 unfoldable pub commandIn : List ℕ → ℕ → Command
 commandIn code at =
-    if? (ltb at 18990)
+    if? (ltb at 10798)
     (record {
       kind = getD code at 0;
       target = getD code (at + 1) 0;

@@ -139,7 +139,7 @@ module _ (p : Program) (ok : WellFormed p) where
   unfolding cmds
   cmds-few = omega (arith, commands-length 2610 (allCommands p), ok .fewCommands)
 
-  nodes-few : length nodes ≤ 16384
+  nodes-few : length nodes ≤ 8192
   unfolding nodes
   nodes-few = ok .fewNodes
 
@@ -149,7 +149,7 @@ module _ (p : Program) (ok : WellFormed p) where
   part2 : List ℕ
   part2 = part1 ++ room 2560 cmds
 
-  split : programWords p ≡ part2 ++ room 16384 nodes
+  split : programWords p ≡ part2 ++ room 8192 nodes
   unfolding programWords part2 part1 head procs cmds nodes
   split = refl
 
@@ -161,14 +161,14 @@ module _ (p : Program) (ok : WellFormed p) where
   unfolding part2
   length2 = length-append part1 (room 2560 cmds) ∙ omega (arith, length1, room-length 2560 cmds cmds-few)
 
-  pub program-length : length (programWords p) ≡ 18994
+  pub program-length : length (programWords p) ≡ 10802
   program-length =
       ap length split
-      ∙ length-append part2 (room 16384 nodes)
-      ∙ omega (arith, length2, room-length 16384 nodes nodes-few)
+      ∙ length-append part2 (room 8192 nodes)
+      ∙ omega (arith, length2, room-length 8192 nodes nodes-few)
 
   in-part2 : (i : ℕ) → i < 2610 → getD (programWords p) i 0 ≡ getD part2 i 0
-  in-part2 i h = ap (λ (l : List ℕ). getD l i 0) split ∙ List·getD-append part2 (room 16384 nodes) 0 i (omega (arith, length2))
+  in-part2 i h = ap (λ (l : List ℕ). getD l i 0) split ∙ List·getD-append part2 (room 8192 nodes) 0 i (omega (arith, length2))
 
   procs-at : (i : ℕ) → i < length procs → getD (programWords p) (2 + i) 0 ≡ getD procs i 0
   unfolding part2 part1 head
@@ -187,13 +187,13 @@ module _ (p : Program) (ok : WellFormed p) where
       ∙ getD-append-add part1 (room 2560 cmds) i 0
       ∙ in-room 2560 i cmds h
 
-  nodes-at : (i : ℕ) → i ≤ length nodes → drop (2610 + i) (programWords p) ≡ drop i nodes ++ replicate (16384 - length nodes) 0
+  nodes-at : (i : ℕ) → i ≤ length nodes → drop (2610 + i) (programWords p) ≡ drop i nodes ++ replicate (8192 - length nodes) 0
   unfolding room
   nodes-at i h =
       let e : 2610 + i ≡ length part2 + i = omega (arith, length2) in
       ap₂ (λ (n : ℕ) (l : List ℕ). drop n l) e split
-      ∙ drop-append-add part2 (room 16384 nodes) i
-      ∙ drop-append-le i nodes (replicate (16384 - length nodes) 0) h
+      ∙ drop-append-add part2 (room 8192 nodes) i
+      ∙ drop-append-le i nodes (replicate (8192 - length nodes) 0) h
 
   -- a command among all
   module _ (pre : List (Cmd ℕ)) (c : Cmd ℕ) (post : List (Cmd ℕ)) (all : allCommands p ≡ pre ++ c ∷ post) where
@@ -216,7 +216,7 @@ module _ (p : Program) (ok : WellFormed p) where
         let e : 50 + 5 * length pre ≡ 50 + 5 * length pre + 0 = omega arith in
         let w0 : getD (programWords p) (50 + 5 * length pre) 0 ≡ getD (cmdWords (2610 + length (gather cmdNodes pre)) c) 0 0 =
         ap (λ (n : ℕ). getD (programWords p) n 0) e ∙ word 0 (omega arith) in
-        simp (lt-ltb (50 + 5 * length pre) 18990 (omega (arith, fewer)))
+        simp (lt-ltb (50 + 5 * length pre) 10798 (omega (arith, fewer)))
         (five w0 (word 1 (omega arith)) (word 2 (omega arith)) (word 3 (omega arith)) (word 4 (omega arith)))
       where
         five : {a b d e f a′ b′ d′ e′ f′ : ℕ} → a ≡ a′ → b ≡ b′ → d ≡ d′ → e ≡ e′ → f ≡ f′
@@ -225,17 +225,17 @@ module _ (p : Program) (ok : WellFormed p) where
         five p q r s t = λ i. record { kind = p i; target = q i; first = r i; other = s i; second = t i }
 
     pub nodes-are : drop (2610 + length (gather cmdNodes pre)) (programWords p)
-        ≡ cmdNodes c ++ (gather cmdNodes post ++ replicate (16384 - length (gather cmdNodes (allCommands p))) 0)
+        ≡ cmdNodes c ++ (gather cmdNodes post ++ replicate (8192 - length (gather cmdNodes (allCommands p))) 0)
     unfolding nodes gather
     nodes-are =
         let g : gather cmdNodes (allCommands p) ≡ gather cmdNodes pre ++ (cmdNodes c ++ gather cmdNodes post) =
         ap (gather cmdNodes) all ∙ gather-append cmdNodes pre (c ∷ post) in
         nodes-at (length (gather cmdNodes pre))
         (omega (arith, ap length g, length-append (gather cmdNodes pre) (cmdNodes c ++ gather cmdNodes post)))
-        ∙ ap (λ (l : List ℕ). drop (length (gather cmdNodes pre)) l ++ replicate (16384 - length nodes) 0) g
-        ∙ ap (λ (l : List ℕ). l ++ replicate (16384 - length nodes) 0)
+        ∙ ap (λ (l : List ℕ). drop (length (gather cmdNodes pre)) l ++ replicate (8192 - length nodes) 0) g
+        ∙ ap (λ (l : List ℕ). l ++ replicate (8192 - length nodes) 0)
         (drop-append-seam (gather cmdNodes pre) (cmdNodes c ++ gather cmdNodes post))
-        ∙ append-assoc (cmdNodes c) (gather cmdNodes post) (replicate (16384 - length nodes) 0)
+        ∙ append-assoc (cmdNodes c) (gather cmdNodes post) (replicate (8192 - length nodes) 0)
 
 -- the command that stands at a place, with its expressions
 pub record FetchedAs (code : List ℕ) (variables procedures : ℕ) (c : Cmd ℕ) (m : Command) : Type 0 where
@@ -270,7 +270,7 @@ module _ (p : Program) (ok : WellFormed p) (f : ℕ) (there : f < length (p .pro
   code-word : (i : ℕ) → i < 3 * length (p .procedures) → codeWord (programWords p) (2 + i) ≡ getD (procedureWords 0 (p .procedures)) i 0
   unfolding codeWord procs
   code-word i h =
-      simp (lt-ltb (2 + i) 18994 (omega (arith, ok .fewProcedures)))
+      simp (lt-ltb (2 + i) 10802 (omega (arith, ok .fewProcedures)))
       (procs-at p ok i (omega (arith, procedures-length 0 (p .procedures))))
 
   count-is : codeWord (programWords p) (3 * f + 4) ≡ length (procedureAt p f .body)
@@ -333,7 +333,7 @@ module _ (p : Program) (ok : WellFormed p) (f : ℕ) (there : f < length (p .pro
       fetch-as =
           record {
             at = 2610 + length (gather cmdNodes pre);
-            rest = gather cmdNodes post ++ replicate (16384 - length (gather cmdNodes (allCommands p))) 0;
+            rest = gather cmdNodes post ++ replicate (8192 - length (gather cmdNodes (allCommands p))) 0;
             words =
                 simp (count-is, lt-ltb k (length (procedureAt p f .body)) h, first-is)
                 (ap (λ (n : ℕ). commandIn (programWords p) (50 + 5 * n)) (sym pre-length) ∙ command-is p ok pre cmd post all);

@@ -1,5 +1,5 @@
 -- What the functions of this crate answer and leave, on words. Assumes nothing.
-use Prim.Native.Nat.{ℕ, zero, suc, _+_, _*_}
+use Prim.Native.Nat.{ℕ, zero, suc, _+_, _-_, _*_, _/_, _%_}
 use mathlib.Core.Path.{_≡_}
 use mathlib.Core.List.{List}
 use lib.ListN.{getD}
@@ -15,14 +15,22 @@ unfoldable pub variableIn : List ℕ → ℕ → ℕ → ℕ
 variableIn store frame x =
     if? (ltb (19 * frame + x) 152) (if? (eqb (getD store (19 * frame + x) 0) 0) 1 (getD store (19 * frame + x) 0)) 1
 
+-- a number in a word of its own
+unfoldable pub numberIn : List ℕ → ℕ → ℕ
+numberIn code at = if? (ltb at 10802) (4294967296 + getD code at 0) 1
+
 module _ (code store : List ℕ) (frame : ℕ) where
-  -- a node that is no operator, by its two words
+  -- the node at a place, if it is no operator
   unfoldable pub leafOf : ℕ → ℕ → ℕ
-  leafOf kind w =
-      if? (eqb kind 1) (4294967296 + w) (if? (eqb kind 2) (8589934592 + w) (if? (eqb kind 3) (variableIn store frame w) 0))
+  leafOf at node =
+      if? (ltb node 268435456) (4294967296 + node)
+      (if? (ltb node 1073741824)
+      (if? (ltb node 536870912) (variableIn store frame (node - 268435456))
+      (if? (ltb node 805306368) (8589934592 + (node - 536870912)) (numberIn code (at + 1))))
+      0)
 
   unfoldable pub leafIn : ℕ → ℕ
-  leafIn at = if? (ltb at 18993) (leafOf (getD code at 0) (getD code (at + 1) 0)) 1
+  leafIn at = if? (ltb at 10802) (leafOf at (getD code at 0)) 1
 
   -- an operand, where an operator's evaluation is known
   unfoldable pub operandBy : (ℕ → List ℕ → ℕ → Did) → ℕ → List ℕ → ℕ → Did
@@ -35,8 +43,9 @@ module _ (code store : List ℕ) (frame : ℕ) where
 
   unfoldable pub operatorBy : (ℕ → List ℕ → ℕ → Did) → ℕ → List ℕ → ℕ → Did
   operatorBy operand at pool count =
-      if? (ltb at 18993)
-      (andThenIn (operand (at + 2) pool count) (secondBy operand (getD code at 0) (at + 2 + getD code (at + 1) 0)))
+      if? (ltb at 10802)
+      (andThenIn (operand (at + 1) pool count)
+      (secondBy operand (getD code at 0 / 268435456) (at + 1 + getD code at 0 % 268435456)))
       (did 1 pool count)
 
   unfoldable pub operatorIn : ℕ → ℕ → List ℕ → ℕ → Did

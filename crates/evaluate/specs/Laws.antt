@@ -1,45 +1,42 @@
 -- On the words of an expression tree, where they stand, evaluation over words is document 01's evaluation of the tree, for every model that
 -- stands in words. Assumes nothing.
-use Prim.Native.Nat.{ℕ, suc, _+_, _*_, _<_, _≤_}
+use Prim.Native.Nat.{ℕ, suc, _+_, _-_, _*_, _/_, _%_, _<_, _≤_}
 use mathlib.Core.Bool.{Bool, true, false}
 use mathlib.Core.Path.{_≡_, refl, sym, _∙_, ap}
-use mathlib.Core.List.{List, _∷_, _++_, append-assoc}
+use mathlib.Core.List.{List, [], _∷_, _++_, append-assoc}
 use mathlib.Core.Option.{Option, none, some}
 use native.Mathlib.Nat.{add-zero}
 use native.Mathlib.Omega.{arith}
-use lib.ListN.{length, getD, drop, length-drop}
+use lib.ListN.{length, getD, drop, length-drop, length-append}
 use lib.Seq.{getD-drop, drop-drop, drop-append-seam}
-use lib.Dec.{eqb}
-use borrow.Author.Tests.{ne-eqb, lt-ltb, le-ltb}
+use lib.Dec.{ltb, eqb}
+use borrow.Author.Tests.{ne-eqb, lt-ltb, le-ltb, ltb-true}
 use Rattle.gil.specs.Tree.{Op, plus, minus, equal, less, and, or, Expr}
 use Rattle.gil.specs.Values.{Value}
 use Rattle.gil.specs.Layout.{bit}
 use Rattle.gil.specs.Machine.{Model, Store, Result, andThen, _>>=_, give, stop, there, eval}
-use Rattle.code.specs.Code.{opWord, exprWords}
+use Rattle.code.specs.Code.{opWord, node, numberWords, exprWords}
 use Rattle.code.specs.WellFormed.{ExprFits, aNumber, aTruth, aVariable, aNot, anOperator}
 use Rattle.values.specs.Packed.{if?, truthWord}
 use Rattle.values.specs.Laws as Values
 use Rattle.terms.specs.Made.{Did, did}
 use Rattle.terms.specs.Laws.{Engine, ValueAs, constAs, As, EvalAs, gives, errs, value-low, operate-as, negate-as}
-use Rattle.evaluate.specs.Evaluated.{andThenIn, variableIn, leafOf, leafIn, operandBy, secondBy, operatorBy, operatorIn, operandIn, evaluateIn}
+use Rattle.evaluate.specs.Evaluated.{andThenIn, variableIn, numberIn, leafOf, leafIn, operandBy, secondBy, operatorBy, operatorIn, operandIn, evaluateIn}
 
 -- an expression's words stand at a place
 pub record Placed (code : List ℕ) (at : ℕ) (e : Expr ℕ) : Type 0 where
   pub rest : List ℕ
   pub words : drop at code ≡ exprWords e ++ rest
 
--- the first two words of what stands at a place, and what stands behind them
-module _ (code : List ℕ) (at : ℕ) {k w : ℕ} {rest : List ℕ} (e : drop at code ≡ k ∷ w ∷ rest) where
+-- the first word of what stands at a place, and what stands behind it
+module _ (code : List ℕ) (at : ℕ) {k : ℕ} {rest : List ℕ} (e : drop at code ≡ k ∷ rest) where
   first-word : getD code at 0 ≡ k
   first-word = ap (λ (n : ℕ). getD code n 0) (sym (add-zero at)) ∙ sym (getD-drop at code 0 0) ∙ ap (λ (l : List ℕ). getD l 0 0) e
 
-  second-word : getD code (at + 1) 0 ≡ w
-  second-word = sym (getD-drop at code 1 0) ∙ ap (λ (l : List ℕ). getD l 1 0) e
+  behind : drop (at + 1) code ≡ rest
+  behind = sym (drop-drop 1 at code) ∙ ap (λ (l : List ℕ). drop 1 l) e
 
-  behind : drop (at + 2) code ≡ rest
-  behind = sym (drop-drop 2 at code) ∙ ap (λ (l : List ℕ). drop 2 l) e
-
-  inside : length code ≡ 18994 → at < 18993
+  inside : length code ≡ 10802 → at < 10802
   inside h = omega (arith, length-drop at code, ap (λ (l : List ℕ). length l) e)
 
 -- a variable's word: 0 where it is not bound
@@ -52,28 +49,55 @@ abbrev pub FrameAs : {T : Type 0} → (T → ℕ → Type 0) → Store T → Lis
 FrameAs TermAs ρ store frame = (x : ℕ) → x < 16 → SlotAs TermAs (getD ρ x none) (getD store (19 * frame + x) 0)
 
 -- an operator's node is no leaf, and no `not`
-op-node : (o : Op) (code store : List ℕ) (frame w : ℕ) → leafOf code store frame (opWord o) w ≡ 0
-unfolding opWord leafOf
-op-node plus code store frame w = refl
-op-node minus code store frame w = refl
-op-node equal code store frame w = refl
-op-node less code store frame w = refl
-op-node and code store frame w = refl
-op-node or code store frame w = refl
+op-high : (o : Op) → 5 ≤ opWord o
+unfolding opWord
+op-high plus = omega arith
+op-high minus = omega arith
+op-high equal = omega arith
+op-high less = omega arith
+op-high and = omega arith
+op-high or = omega arith
 
 op-not-not : (o : Op) → eqb (opWord o) 4 ≡ false
-unfolding opWord
-op-not-not plus = refl
-op-not-not minus = refl
-op-not-not equal = refl
-op-not-not less = refl
-op-not-not and = refl
-op-not-not or = refl
+op-not-not o = ne-eqb (opWord o) 4 (λ z. absurd (omega (arith, op-high o)))
 
-truth-word : (b : Bool) → 8589934592 + bit b ≡ truthWord b
-unfolding bit truthWord
-truth-word true = refl
-truth-word false = refl
+-- the nodes at a place
+module _ (code store : List ℕ) (frame at : ℕ) where
+  op-node : (o : Op) (w : ℕ) → leafOf code store frame at (node (opWord o) w) ≡ 0
+  unfolding leafOf
+  op-node o w =
+      let h = op-high o in
+      simp (le-ltb (node (opWord o) w) 268435456 (omega arith), le-ltb (node (opWord o) w) 1073741824 (omega arith))
+
+  near-node : (n : ℕ) → n < 268435456 → leafOf code store frame at n ≡ 4294967296 + n
+  unfolding leafOf
+  near-node n h = simp (lt-ltb n 268435456 h)
+
+  variable-node : (x : ℕ) → x < 16 → leafOf code store frame at (node 1 x) ≡ variableIn store frame x
+  unfolding leafOf
+  variable-node x h =
+      let e : node 1 x - 268435456 ≡ x = omega arith in
+      simp (le-ltb (node 1 x) 268435456 (omega arith), lt-ltb (node 1 x) 1073741824 (omega arith), lt-ltb (node 1 x) 536870912 (omega arith), e)
+
+  truth-node : (b : Bool) → leafOf code store frame at (node 2 (bit b)) ≡ truthWord b
+  unfolding leafOf bit truthWord
+  truth-node true = refl
+  truth-node false = refl
+
+  not-node : leafOf code store frame at (node 4 0) ≡ 0
+  unfolding leafOf
+  not-node = refl
+
+  far-node : leafOf code store frame at (node 3 0) ≡ numberIn code (at + 1)
+  unfolding leafOf
+  far-node = refl
+
+-- a node's two parts
+kind-part : (k w : ℕ) → w < 268435456 → node k w / 268435456 ≡ k
+kind-part k w h = omega arith
+
+other-part : (k w : ℕ) → w < 268435456 → node k w % 268435456 ≡ w
+other-part k w h = omega arith
 
 module _ {M : Model} (E : Engine M) where
   pub then-as : {r : Result (M .World) (Value (M .Term))} {d : Did}
@@ -86,25 +110,37 @@ module _ {M : Model} (E : Engine M) where
   then-as {d} (gives {w} {v} h p) k = simp (le-ltb (d .out) 4294967296 (value-low E p)) (k w v (d .out) (d .pool) (d .count) h p)
   then-as {d} (errs {n} h e few) k = let small : d .out < 4294967296 = rw e few in simp (lt-ltb (d .out) 4294967296 small) (errs h e few)
 
-  module _ (code store : List ℕ) (frame : ℕ) (whole : length code ≡ 18994) where
+  module _ (code store : List ℕ) (frame : ℕ) (whole : length code ≡ 10802) where
     -- a leaf, and an operator
-    leaf-is : (at : ℕ) {k w x : ℕ} {rest : List ℕ} → drop at code ≡ k ∷ w ∷ rest → leafOf code store frame k w ≡ x → leafIn code store frame at ≡ x
+    leaf-is : (at : ℕ) {k x : ℕ} {rest : List ℕ} → drop at code ≡ k ∷ rest → leafOf code store frame at k ≡ x → leafIn code store frame at ≡ x
     unfolding leafIn
-    leaf-is at e f = simp (lt-ltb at 18993 (inside code at e whole), first-word code at e, second-word code at e) f
+    leaf-is at e f = simp (lt-ltb at 10802 (inside code at e whole), first-word code at e) f
+
+    number-is : (at n : ℕ) (rest : List ℕ) → drop at code ≡ numberWords n ++ rest → leafIn code store frame at ≡ 4294967296 + n
+    unfolding numberWords
+    number-is at n rest = by (ltb n 268435456) refl
+      where
+        by : (b : Bool) → ltb n 268435456 ≡ b → drop at code ≡ (elim b [ true ↦ n ∷ [] | false ↦ node 3 0 ∷ n ∷ [] ]) ++ rest → leafIn code store frame at ≡ 4294967296 + n
+        by true t e = leaf-is at e (near-node code store frame at n (ltb-true n 268435456 t))
+        by false t e = leaf-is at e (far-node code store frame at ∙ far (behind code at e))
+          where
+            far : drop (at + 1) code ≡ n ∷ rest → numberIn code (at + 1) ≡ 4294967296 + n
+            far f = unfold numberIn in simp (lt-ltb (at + 1) 10802 (inside code (at + 1) f whole), first-word code (at + 1) f)
 
     at-leaf : (d at : ℕ) {x : ℕ} (pool : List ℕ) (count : ℕ) → leafIn code store frame at ≡ x → (x ≡ 0 → ⊥)
         → operandIn code store frame d at pool count ≡ did x pool count
     unfolding operandIn operandBy
     at-leaf d at {x} pool count e nz = simp (e, ne-eqb x 0 nz)
 
-    at-operator : (d at : ℕ) {k w : ℕ} (pool : List ℕ) (count : ℕ) {rest : List ℕ}
-        → drop at code ≡ k ∷ w ∷ rest
-        → leafOf code store frame k w ≡ 0
+    at-operator : (d at k w : ℕ) (pool : List ℕ) (count : ℕ) {rest : List ℕ}
+        → drop at code ≡ node k w ∷ rest
+        → w < 268435456
+        → leafOf code store frame at (node k w) ≡ 0
         → operandIn code store frame (suc d) at pool count
-        ≡ andThenIn (operandIn code store frame d (at + 2) pool count) (secondBy code store frame (operandIn code store frame d) k (at + 2 + w))
+        ≡ andThenIn (operandIn code store frame d (at + 1) pool count) (secondBy code store frame (operandIn code store frame d) k (at + 1 + w))
     unfolding operandIn operandBy operatorIn operatorBy
-    at-operator d at pool count e f =
-        simp (leaf-is at e f, lt-ltb at 18993 (inside code at e whole), first-word code at e, second-word code at e)
+    at-operator d at k w pool count e h f =
+        simp (leaf-is at e f, lt-ltb at 10802 (inside code at e whole), first-word code at e, kind-part k w h, other-part k w h)
 
     variable-is : (x : ℕ) → frame < 8 → x < 16
         → variableIn store frame x ≡ if? (eqb (getD store (19 * frame + x) 0) 0) 1 (getD store (19 * frame + x) 0)
@@ -124,12 +160,18 @@ module _ {M : Model} (E : Engine M) where
         let f : leafIn code store frame at ≡ x = e ∙ simp (ne-eqb x 0 nz) in
         rw (at-leaf d at pool count f nz) (gives h p)
 
-    -- where the second operand stands
+    -- an operand is not longer than the words, and where the second one stands
+    operand-short : (at : ℕ) {k : ℕ} (a b : Expr ℕ) (rest : List ℕ)
+        → drop at code ≡ k ∷ ((exprWords a ++ exprWords b) ++ rest)
+        → length (exprWords a) < 268435456
+    operand-short at a b rest e =
+        omega (arith, whole, length-drop at code, ap (λ (l : List ℕ). length l) e, length-append (exprWords a ++ exprWords b) rest, length-append (exprWords a) (exprWords b))
+
     second-stands : (at : ℕ) {k : ℕ} (a b : Expr ℕ) (rest : List ℕ)
-        → drop at code ≡ k ∷ length (exprWords a) ∷ (exprWords a ++ exprWords b ++ rest)
-        → drop (at + 2 + length (exprWords a)) code ≡ exprWords b ++ rest
+        → drop at code ≡ k ∷ ((exprWords a ++ exprWords b) ++ rest)
+        → drop (at + 1 + length (exprWords a)) code ≡ exprWords b ++ rest
     second-stands at a b rest e =
-        sym (drop-drop (length (exprWords a)) (at + 2) code)
+        sym (drop-drop (length (exprWords a)) (at + 1) code)
         ∙ ap (λ (l : List ℕ). drop (length (exprWords a)) l) (behind code at e ∙ append-assoc (exprWords a) (exprWords b) rest)
         ∙ drop-append-seam (exprWords a) (exprWords b ++ rest)
 
@@ -140,26 +182,26 @@ module _ {M : Model} (E : Engine M) where
           → (w : M .World) (pool : List ℕ) (count : ℕ)
           → E .WorldAs w pool count
           → EvalAs E (eval M ρ e w) (operandIn code store frame d at pool count)
-      unfolding eval exprWords give leafOf secondBy _>>=_
+      unfolding eval exprWords give secondBy _>>=_
       operand-as (aNumber {d} {n} h) at rest e w pool count world =
-          let f : leafIn code store frame at ≡ 4294967296 + n = leaf-is at e refl in
+          let f : leafIn code store frame at ≡ 4294967296 + n = number-is at n rest e in
           rw (at-leaf (suc d) at pool count f (λ z. absurd (omega arith))) (gives world (constAs (Values.aNumber h)))
       operand-as (aTruth {d} {b}) at rest e w pool count world =
-          let f : leafIn code store frame at ≡ truthWord b = leaf-is at e (truth-word b) in
+          let f : leafIn code store frame at ≡ truthWord b = leaf-is at e (truth-node code store frame at b) in
           let low : 4294967296 ≤ truthWord b = Values.const-low (Values.aTruth {b = b}) in
           rw (at-leaf (suc d) at pool count f (λ z. absurd (omega arith))) (gives world (constAs Values.aTruth))
       operand-as (aVariable {d} {x} h) at rest e w pool count world =
-          slot-as (suc d) at w pool count (leaf-is at e (variable-is x low (omega arith))) world (frame-as x (omega arith))
+          slot-as (suc d) at w pool count (leaf-is at e (variable-node code store frame at x (omega arith) ∙ variable-is x low (omega arith))) world (frame-as x (omega arith))
       operand-as (aNot {d} {e = a} h) at rest e w pool count world =
-          rw (at-operator d at pool count e refl)
-          (then-as (operand-as h (at + 2) rest (behind code at e) w pool count world) (λ w v x pool count h p. negate-as E h p))
+          rw (at-operator d at 4 0 pool count e (omega arith) (not-node code store frame at))
+          (then-as (operand-as h (at + 1) rest (behind code at e) w pool count world) (λ w v x pool count h p. negate-as E h p))
       operand-as (anOperator {d} {o} {a} {b} h k) at rest e w pool count world =
-          rw (at-operator d at pool count e (op-node o code store frame (length (exprWords a))))
+          rw (at-operator d at (opWord o) (length (exprWords a)) pool count e (operand-short at a b rest e) (op-node code store frame at o (length (exprWords a))))
           (then-as
-          (operand-as h (at + 2) (exprWords b ++ rest) (behind code at e ∙ append-assoc (exprWords a) (exprWords b) rest) w pool count world)
+          (operand-as h (at + 1) (exprWords b ++ rest) (behind code at e ∙ append-assoc (exprWords a) (exprWords b) rest) w pool count world)
           (λ w v x pool count world p. simp (op-not-not o)
           (then-as
-          (operand-as k (at + 2 + length (exprWords a)) rest (second-stands at a b rest e) w pool count world)
+          (operand-as k (at + 1 + length (exprWords a)) rest (second-stands at a b rest e) w pool count world)
           (λ w u y pool count world q. operate-as E o world p q))))
 
       -- an expression, at most eight deep, evaluated

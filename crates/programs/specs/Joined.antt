@@ -67,15 +67,15 @@ module _ (a b c : ℕ) (us bs cs : List ℕ) (ha : length us ≤ a) (hb : length
       ∙ behind-two (sets (sets (replicate (a + (b + c)) 0) (a + b) cs) a bs) 0 us
       ∙ ap (λ (l : List ℕ). 0 ∷ 0 ∷ l) runs
 
-pub program-joined : (p : Program) → WellFormed p → set (set (programStored (replicate 18994 0) (p .procedures)) 0 (length (p .procedures))) 1 (p .main) ≡ programWords p
+pub program-joined : (p : Program) → WellFormed p → set (set (programStored (replicate 10802 0) (p .procedures)) 0 (length (p .procedures))) 1 (p .main) ≡ programWords p
 unfolding programWords programStored bodyStored allCommands
 program-joined p w =
     ap (λ (l : List ℕ). set (set l 0 (length (p .procedures))) 1 (p .main))
-    (runs-behind 48 2560 16384 (procedureWords 0 (p .procedures)) (commandWords 2610 (bodies (p .procedures))) (gather cmdNodes (bodies (p .procedures)))
+    (runs-behind 48 2560 8192 (procedureWords 0 (p .procedures)) (commandWords 2610 (bodies (p .procedures))) (gather cmdNodes (bodies (p .procedures)))
     (omega (arith, three-words 0 (p .procedures), w .fewProcedures))
     (omega (arith, words-length 2610 (bodies (p .procedures)), w .fewCommands))
     (w .fewNodes))
-    ∙ apart (length (p .procedures) ∷ p .main ∷ []) (room 48 (procedureWords 0 (p .procedures))) (room 2560 (commandWords 2610 (bodies (p .procedures)))) (room 16384 (gather cmdNodes (bodies (p .procedures))))
+    ∙ apart (length (p .procedures) ∷ p .main ∷ []) (room 48 (procedureWords 0 (p .procedures))) (room 2560 (commandWords 2610 (bodies (p .procedures)))) (room 8192 (gather cmdNodes (bodies (p .procedures))))
   where
     apart : (a b c d : List ℕ) → a ++ (b ++ (c ++ d)) ≡ ((a ++ b) ++ c) ++ d
     apart a b c d = sym (append-assoc a b (c ++ d)) ∙ sym (append-assoc (a ++ b) c d)

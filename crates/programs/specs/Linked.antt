@@ -50,7 +50,7 @@ calleeIn s calls procs n f = placeOf (nameAt s (getD calls f 0)) (map (nameAt s)
 -- what linking does to the words of procedures
 pub record Links (s calls procs : List ℕ) (n commands : ℕ) (code code′ : List ℕ) : Type 0 where
   pub long : length code′ ≡ length code
-  pub words : (code₀ : List ℕ) (qs : List Procedure) → length code₀ ≡ 18994 → code ≡ programStored code₀ qs → commands ≡ length (bodies qs) → length (bodies qs) ≤ 512 → length qs ≤ 16 → length (gather cmdNodes (bodies qs)) ≤ 16384 → code′ ≡ programStored code₀ (map (relinkProc (calleeIn s calls procs n)) qs)
+  pub words : (code₀ : List ℕ) (qs : List Procedure) → length code₀ ≡ 10802 → code ≡ programStored code₀ qs → commands ≡ length (bodies qs) → length (bodies qs) ≤ 512 → length qs ≤ 16 → length (gather cmdNodes (bodies qs)) ≤ 8192 → code′ ≡ programStored code₀ (map (relinkProc (calleeIn s calls procs n)) qs)
 
 -- the words with command `i` linked
 unfoldable pub linkCommand : (ℕ → ℕ) → List ℕ → ℕ → List ℕ
@@ -179,7 +179,7 @@ module _ (g : ℕ → ℕ) where
           ∙ ap (λ (m : ℕ). sets (sets l (50 + 5 * i) ws) m (commandWords n rs)) z
           ∙ sets-swap l (50 + 5 * i) ws (50 + 5 * suc i) (commandWords n rs) (omega arith)
 
-  program-linked : (code₀ : List ℕ) (qs : List Procedure) → length code₀ ≡ 18994 → length (bodies qs) ≤ 512 → length qs ≤ 16 → linkFrom g (programStored code₀ qs) 0 (length (bodies qs)) ≡ programStored code₀ (map (relinkProc g) qs)
+  program-linked : (code₀ : List ℕ) (qs : List Procedure) → length code₀ ≡ 10802 → length (bodies qs) ≤ 512 → length qs ≤ 16 → linkFrom g (programStored code₀ qs) 0 (length (bodies qs)) ≡ programStored code₀ (map (relinkProc g) qs)
   unfolding programStored bodyStored
   program-linked code₀ qs l few small =
       ap (λ (m : List ℕ). linkFrom g m 0 (length (bodies qs))) (sym (sets-swap base 2 (procedureWords 0 qs) 50 (commandWords 2610 (bodies qs)) (omega (arith, three-words 0 qs))))

@@ -12,16 +12,18 @@ use lib.Dec.{leb, ltb, eqb}
 use Rattle.gil.specs.Text.{Token, lexeme}
 use Rattle.gil.specs.Tree.{Cmd, assign, ifgoto, call, lookup, mutate, dispose, uSym, iSym, return, fail, vanish, Name}
 use Rattle.gil.specs.Reading.{Read, faulty, read, Reader, isMark, oneOrMore, command, commandsOf, commands}
-use Rattle.gil.specs.Names.{any, gather, cmdVars, cmdProperties, cmdCalls, jumpsPast, isEnd, endsOpen, renameExpr, renameCmd, withNames}
+use Rattle.gil.specs.Names.{any, gather, cmdVars, cmdProperties, cmdCalls, jumpsPast, isEnd, endsOpen, withNames}
 use Rattle.tokens.specs.Seen.{Found}
 use Rattle.names.specs.Tables.{Grows, grows-none, grows-then}
 use Rattle.reader.specs.Goes.{Goes, fails, goes}
 use Rattle.reader.specs.Seeing.{mark-is}
-use Rattle.code.specs.Code.{exprWords, cmdNodes, cmdWords, commandWords}
+use Rattle.code.specs.Code.{cmdNodes, cmdWords, commandWords}
 use Rattle.names.specs.Tables.{Kept, numberIn}
 use Rattle.names.specs.Lists.{withNames-append}
 use Rattle.reader.specs.Stores.{sets-append, sets-swap}
-use Rattle.reader.specs.Effects.{Does, jumpAt, cmdSize, numbered, nodesOf, nodes-size}
+use Rattle.code.specs.Accepted.Sizes.{cmdSize}
+use Rattle.code.specs.Accepted.Numbered.{cmdNodes-size, renameCmd-size}
+use Rattle.reader.specs.Effects.{Does, jumpAt, numbered}
 use Rattle.programs.specs.Items.{join, join-join, join-none, was-fault, was-read, Item, list-fault, list-last, list-more}
 
 -- one more than the highest number that commands jump to
@@ -66,18 +68,8 @@ unfolding bodySize
 size-more cs c = omega (arith, size-append cs (c ∷ []))
 
 cmd-nodes-size : (vs qs fs : List Name) (c : Cmd Name) → length (cmdNodes (numbered vs qs fs c)) ≡ cmdSize c
-unfolding cmdNodes numbered renameCmd cmdSize nodesOf
-cmd-nodes-size vs qs fs (assign v e) = nodes-size vs e
-cmd-nodes-size vs qs fs (ifgoto e n) = nodes-size vs e
-cmd-nodes-size vs qs fs (call v f e) = nodes-size vs e
-cmd-nodes-size vs qs fs (lookup v e p) = nodes-size vs e
-cmd-nodes-size vs qs fs (mutate v e p d) = length-append (exprWords (renameExpr (numberIn 16 vs) e)) (exprWords (renameExpr (numberIn 16 vs) d)) ∙ (let h = nodes-size vs e in let k = nodes-size vs d in omega arith)
-cmd-nodes-size vs qs fs (dispose v e) = nodes-size vs e
-cmd-nodes-size vs qs fs (uSym v j) = refl
-cmd-nodes-size vs qs fs (iSym v j) = refl
-cmd-nodes-size vs qs fs (return e) = nodes-size vs e
-cmd-nodes-size vs qs fs (fail e) = nodes-size vs e
-cmd-nodes-size vs qs fs vanish = refl
+unfolding numbered
+cmd-nodes-size vs qs fs c = cmdNodes-size (numbered vs qs fs c) ∙ renameCmd-size (numberIn 16 vs) (numberIn 32 qs) (numberIn 16 fs) c
 
 pub body-nodes-size : (vs qs fs : List Name) (cs : List (Cmd Name)) → length (gather cmdNodes (map (numbered vs qs fs) cs)) ≡ bodySize cs
 unfolding gather bodySize
@@ -181,8 +173,8 @@ pub record Lists (s t t′ p p′ k k′ code code′ : List ℕ) (first out out
   pub jumps : jump ≡ highest cs
   pub ending : endsOpen cs ≡ not ends
   pub long : length code′ ≡ length code
-  pub size : out + bodySize cs ≤ 18994 → out′ ≡ out + bodySize cs
-  pub words : (vs vm qs qm fs fm : List Name) → Kept s 16 t vs → Kept s 32 p qs → Kept s 16 k fs → length code ≡ 18994 → 2610 ≤ out → out + bodySize cs ≤ 18994 → first + length cs ≤ 512 → code′ ≡ bodyStored code first out (map (numbered (withNames vs (gather cmdVars cs ++ vm)) (withNames qs (gather cmdProperties cs ++ qm)) (withNames fs (gather cmdCalls cs ++ fm))) cs)
+  pub size : out + bodySize cs ≤ 10802 → out′ ≡ out + bodySize cs
+  pub words : (vs vm qs qm fs fm : List Name) → Kept s 16 t vs → Kept s 32 p qs → Kept s 16 k fs → length code ≡ 10802 → 2610 ≤ out → out + bodySize cs ≤ 10802 → first + length cs ≤ 512 → code′ ≡ bodyStored code first out (map (numbered (withNames vs (gather cmdVars cs ++ vm)) (withNames qs (gather cmdProperties cs ++ qm)) (withNames fs (gather cmdCalls cs ++ fm))) cs)
 
 -- in the middle of them
 pub record Turn (s t t′ p p′ k k′ code code′ : List ℕ) (at first out out′ i count jump : ℕ) : Type 0 where
@@ -196,8 +188,8 @@ pub record Turn (s t t′ p p′ k k′ code code′ : List ℕ) (at first out o
   pub room : count ≤ length s
   pub behind : at + count ≤ i
   pub long : length code′ ≡ length code
-  pub size : out + bodySize so ≤ 18994 → out′ ≡ out + bodySize so
-  pub words : (vs vm qs qm fs fm : List Name) → Kept s 16 t vs → Kept s 32 p qs → Kept s 16 k fs → length code ≡ 18994 → 2610 ≤ out → out + bodySize so ≤ 18994 → first + length so ≤ 512 → code′ ≡ bodyStored code first out (map (numbered (withNames vs (gather cmdVars so ++ vm)) (withNames qs (gather cmdProperties so ++ qm)) (withNames fs (gather cmdCalls so ++ fm))) so)
+  pub size : out + bodySize so ≤ 10802 → out′ ≡ out + bodySize so
+  pub words : (vs vm qs qm fs fm : List Name) → Kept s 16 t vs → Kept s 32 p qs → Kept s 16 k fs → length code ≡ 10802 → 2610 ≤ out → out + bodySize so ≤ 10802 → first + length so ≤ 512 → code′ ≡ bodyStored code first out (map (numbered (withNames vs (gather cmdVars so ++ vm)) (withNames qs (gather cmdProperties so ++ qm)) (withNames fs (gather cmdCalls so ++ fm))) so)
 
 pub turn-none : {s t p k code : List ℕ} (at : ℕ) {first out : ℕ} → Turn s t t p p k k code code at first out out at 0 0
 unfolding commands gather highest bodySize bodyStored commandWords
@@ -243,16 +235,16 @@ module _ {s t₀ t t′ p₀ p p′ k₀ k k′ code₀ code code′ : List ℕ}
     more-long : length code′ ≡ length code₀
     more-long = it .has .long ∙ u .long
 
-    room-so : out₀ + bodySize (u .so ++ (it .item ∷ [])) ≤ 18994 → out₀ + bodySize (u .so) ≤ 18994
+    room-so : out₀ + bodySize (u .so ++ (it .item ∷ [])) ≤ 10802 → out₀ + bodySize (u .so) ≤ 10802
     room-so r = omega (arith, size-more (u .so) (it .item))
 
-    placed : out₀ + bodySize (u .so ++ (it .item ∷ [])) ≤ 18994 → out ≡ out₀ + bodySize (u .so)
+    placed : out₀ + bodySize (u .so ++ (it .item ∷ [])) ≤ 10802 → out ≡ out₀ + bodySize (u .so)
     placed r = u .size (room-so r)
 
-    more-size : out₀ + bodySize (u .so ++ (it .item ∷ [])) ≤ 18994 → out′ ≡ out₀ + bodySize (u .so ++ (it .item ∷ []))
+    more-size : out₀ + bodySize (u .so ++ (it .item ∷ [])) ≤ 10802 → out′ ≡ out₀ + bodySize (u .so ++ (it .item ∷ []))
     more-size r = let z = placed r in let y = size-more (u .so) (it .item) in it .has .size (omega arith) ∙ omega arith
 
-    more-words : (vs vm qs qm fs fm : List Name) → Kept s 16 t₀ vs → Kept s 32 p₀ qs → Kept s 16 k₀ fs → length code₀ ≡ 18994 → 2610 ≤ out₀ → out₀ + bodySize (u .so ++ (it .item ∷ [])) ≤ 18994 → first + length (u .so ++ (it .item ∷ [])) ≤ 512 → code′ ≡ bodyStored code₀ first out₀ (map (numbered (withNames vs (gather cmdVars (u .so ++ (it .item ∷ [])) ++ vm)) (withNames qs (gather cmdProperties (u .so ++ (it .item ∷ [])) ++ qm)) (withNames fs (gather cmdCalls (u .so ++ (it .item ∷ [])) ++ fm))) (u .so ++ (it .item ∷ [])))
+    more-words : (vs vm qs qm fs fm : List Name) → Kept s 16 t₀ vs → Kept s 32 p₀ qs → Kept s 16 k₀ fs → length code₀ ≡ 10802 → 2610 ≤ out₀ → out₀ + bodySize (u .so ++ (it .item ∷ [])) ≤ 10802 → first + length (u .so ++ (it .item ∷ [])) ≤ 512 → code′ ≡ bodyStored code₀ first out₀ (map (numbered (withNames vs (gather cmdVars (u .so ++ (it .item ∷ [])) ++ vm)) (withNames qs (gather cmdProperties (u .so ++ (it .item ∷ [])) ++ qm)) (withNames fs (gather cmdCalls (u .so ++ (it .item ∷ [])) ++ fm))) (u .so ++ (it .item ∷ [])))
     more-words vs vm qs qm fs fm kv kq kf l low r m =
         let z = placed r in
         let y = size-more (u .so) (it .item) in

@@ -65,8 +65,8 @@ pub record Declares (s p p′ k k′ q q′ code code′ : List ℕ) (number fro
   pub passes : past ≡ any (jumpsPast (length (r .body))) (r .body)
   pub stays : unended ≡ endsOpen (r .body)
   pub long : length code′ ≡ length code
-  pub size : out + bodySize (r .body) ≤ 18994 → out′ ≡ out + bodySize (r .body)
-  pub words : (ns nm fs fm : List Name) → Kept s 32 p ns → Kept s 16 k fs → length code ≡ 18994 → 2610 ≤ out → out + bodySize (r .body) ≤ 18994 → from + length (r .body) ≤ 512 → number < 16 → code′ ≡ procStored code number from out (procOf (withNames ns (gather cmdProperties (r .body) ++ nm)) (withNames fs (gather cmdCalls (r .body) ++ fm)) r)
+  pub size : out + bodySize (r .body) ≤ 10802 → out′ ≡ out + bodySize (r .body)
+  pub words : (ns nm fs fm : List Name) → Kept s 32 p ns → Kept s 16 k fs → length code ≡ 10802 → 2610 ≤ out → out + bodySize (r .body) ≤ 10802 → from + length (r .body) ≤ 512 → number < 16 → code′ ≡ procStored code number from out (procOf (withNames ns (gather cmdProperties (r .body) ++ nm)) (withNames fs (gather cmdCalls (r .body) ++ fm)) r)
 
 -- the variables of a procedure against the count in its table
 cut-17 : (n : ℕ) → ltb 16 (min (16 + 1) n) ≡ ltb 16 n
@@ -110,7 +110,7 @@ declares {s} {v₁} {v₂} {p} {k = k} {q = q} {q′ = q′} {code = code} {code
     many : getD v₂ 32 0 ≡ min (16 + 1) (length (procVars r))
     many = kept .counted ∙ (unfold procVars distinct withNames in refl)
 
-    stored : (ns nm fs fm : List Name) → Kept s 32 p ns → Kept s 16 k fs → length code ≡ 18994 → 2610 ≤ out → out + bodySize cs ≤ 18994 → from + length cs ≤ 512 → number < 16 → code′ ≡ procStored code number from out (procOf (withNames ns (gather cmdProperties cs ++ nm)) (withNames fs (gather cmdCalls cs ++ fm)) r)
+    stored : (ns nm fs fm : List Name) → Kept s 32 p ns → Kept s 16 k fs → length code ≡ 10802 → 2610 ≤ out → out + bodySize cs ≤ 10802 → from + length cs ≤ 512 → number < 16 → code′ ≡ procStored code number from out (procOf (withNames ns (gather cmdProperties cs ++ nm)) (withNames fs (gather cmdCalls cs ++ fm)) r)
     stored ns nm fs fm kn kf lc low room few less =
         e
         ∙ procedure-sets code₁ number from (getD v₂ 32 0) count (l .long ∙ lc) less
@@ -188,7 +188,7 @@ pub record Tells (s p p′ k k′ q q′ code code′ : List ℕ) (procs command
   pub passes : past ≡ any pastOf ps
   pub stays : unended ≡ any openOf ps
   pub long : length code′ ≡ length code
-  pub words : (ns nm fs fm : List Name) → Kept s 32 p ns → Kept s 16 k fs → length code ≡ 18994 → 2610 + bodySize (allOf ps) ≤ 18994 → length (allOf ps) ≤ 512 → length ps ≤ 16 → code′ ≡ programStored code (map (procOf (withNames ns (gather propsOf ps ++ nm)) (withNames fs (gather callsOf ps ++ fm))) ps)
+  pub words : (ns nm fs fm : List Name) → Kept s 32 p ns → Kept s 16 k fs → length code ≡ 10802 → 2610 + bodySize (allOf ps) ≤ 10802 → length (allOf ps) ≤ 512 → length ps ≤ 16 → code′ ≡ programStored code (map (procOf (withNames ns (gather propsOf ps ++ nm)) (withNames fs (gather callsOf ps ++ fm))) ps)
 
 -- in the middle of them
 pub record Round (s p p′ k k′ q q′ code code′ : List ℕ) (out i procs commands : ℕ) (wide past unended : Bool) : Type 0 where
@@ -197,7 +197,7 @@ pub record Round (s p p′ k k′ q q′ code code′ : List ℕ) (out i procs c
   pub tells : Tells s p p′ k k′ q q′ code code′ procs commands wide past unended so
   pub room : procs ≤ length s
   pub behind : procs ≤ i
-  pub size : 2610 + bodySize (allOf so) ≤ 18994 → out ≡ 2610 + bodySize (allOf so)
+  pub size : 2610 + bodySize (allOf so) ≤ 10802 → out ≡ 2610 + bodySize (allOf so)
 
 pub round-none : {s p k q code : List ℕ} → Round s p p k k q q code code 2610 0 0 0 false false false
 unfolding procedures gather any bodySize programStored bodyStored procedureWords Rattle.code.specs.Code.commandWords
@@ -264,13 +264,13 @@ module _ {s p₀ p p′ k₀ k k′ q₀ q q′ code₀ code code′ : List ℕ}
     count-more : length (allOf (u .so ++ (it .item ∷ []))) ≡ length (allOf (u .so)) + length (it .item .body)
     count-more = ap length (gather-more (λ r. r .body) (u .so) (it .item)) ∙ length-append (allOf (u .so)) (it .item .body)
 
-    placed : 2610 + bodySize (allOf (u .so ++ (it .item ∷ []))) ≤ 18994 → out ≡ 2610 + bodySize (allOf (u .so))
+    placed : 2610 + bodySize (allOf (u .so ++ (it .item ∷ []))) ≤ 10802 → out ≡ 2610 + bodySize (allOf (u .so))
     placed r = u .size (omega (arith, all-more))
 
-    now-size : 2610 + bodySize (allOf (u .so ++ (it .item ∷ []))) ≤ 18994 → out′ ≡ 2610 + bodySize (allOf (u .so ++ (it .item ∷ [])))
+    now-size : 2610 + bodySize (allOf (u .so ++ (it .item ∷ []))) ≤ 10802 → out′ ≡ 2610 + bodySize (allOf (u .so ++ (it .item ∷ [])))
     now-size r = let z = placed r in let y = all-more in it .has .size (omega arith) ∙ omega arith
 
-    now-words : (ns nm fs fm : List Name) → Kept s 32 p₀ ns → Kept s 16 k₀ fs → length code₀ ≡ 18994 → 2610 + bodySize (allOf (u .so ++ (it .item ∷ []))) ≤ 18994 → length (allOf (u .so ++ (it .item ∷ []))) ≤ 512 → length (u .so ++ (it .item ∷ [])) ≤ 16 → code′ ≡ programStored code₀ (map (procOf (withNames ns (gather propsOf (u .so ++ (it .item ∷ [])) ++ nm)) (withNames fs (gather callsOf (u .so ++ (it .item ∷ [])) ++ fm))) (u .so ++ (it .item ∷ [])))
+    now-words : (ns nm fs fm : List Name) → Kept s 32 p₀ ns → Kept s 16 k₀ fs → length code₀ ≡ 10802 → 2610 + bodySize (allOf (u .so ++ (it .item ∷ []))) ≤ 10802 → length (allOf (u .so ++ (it .item ∷ []))) ≤ 512 → length (u .so ++ (it .item ∷ [])) ≤ 16 → code′ ≡ programStored code₀ (map (procOf (withNames ns (gather propsOf (u .so ++ (it .item ∷ [])) ++ nm)) (withNames fs (gather callsOf (u .so ++ (it .item ∷ [])) ++ fm))) (u .so ++ (it .item ∷ [])))
     now-words ns nm fs fm kn kf l r m few =
         let z = placed r in
         let y = all-more in

@@ -73,12 +73,12 @@ unfolding numberProgram procNames
 names-numbered ps = each-name (λ w. placeOf w (properties ps)) (λ w. placeOf w (procNames ps)) ps
 
 -- a text that is accepted
-module _ {s props calls procs code : List ℕ} {next np nc : ℕ} {wide past unended : Bool} (g : Goes s 1 (Tells s (replicate 33 0) props (replicate 33 0) calls (replicate 33 0) procs (replicate 18994 0) code np nc wide past unended) (procedures s) next) {p : Program} (a : Passed s p) where
+module _ {s props calls procs code : List ℕ} {next np nc : ℕ} {wide past unended : Bool} (g : Goes s 1 (Tells s (replicate 33 0) props (replicate 33 0) calls (replicate 33 0) procs (replicate 10802 0) code np nc wide past unended) (procedures s) next) {p : Program} (a : Passed s p) where
   ps : List (Proc Name)
   ps = a .procs
 
-  tells : Tells s (replicate 33 0) props (replicate 33 0) calls (replicate 33 0) procs (replicate 18994 0) code np nc wide past unended (a .procs)
-  tells = was (subst (λ (r : Read (List (Proc Name))). Goes s 1 (Tells s (replicate 33 0) props (replicate 33 0) calls (replicate 33 0) procs (replicate 18994 0) code np nc wide past unended) r next) (a .is) g)
+  tells : Tells s (replicate 33 0) props (replicate 33 0) calls (replicate 33 0) procs (replicate 10802 0) code np nc wide past unended (a .procs)
+  tells = was (subst (λ (r : Read (List (Proc Name))). Goes s 1 (Tells s (replicate 33 0) props (replicate 33 0) calls (replicate 33 0) procs (replicate 10802 0) code np nc wide past unended) r next) (a .is) g)
 
   empty : (cap : ℕ) → Kept s cap (replicate 33 0) []
   empty cap = kept-none s cap (replicate 33 0) refl refl
@@ -114,16 +114,16 @@ module _ {s props calls procs code : List ℕ} {next np nc : ℕ} {wide past une
   abbrev stored-procs : List Procedure
   stored-procs = map (procOf (properties (a .procs)) calls-all) (a .procs)
 
-  nodes : length (gather cmdNodes (bodies stored-procs)) ≤ 16384
+  nodes : length (gather cmdNodes (bodies stored-procs)) ≤ 8192
   nodes =
       let e : length (gather cmdNodes (bodies stored-procs)) ≡ total procSize (a .procs) = ap (λ (qs : List Procedure). length (gather cmdNodes (bodies qs))) (as-numbered (properties (a .procs)) calls-all (a .limited .fewProperties) (a .procs) (a .limited .fewVariables)) ∙ numbered-nodes (λ w. placeOf w (properties (a .procs))) (numberIn 16 calls-all) (a .procs) in
       omega (arith, a .size)
 
-  code-is : code ≡ programStored (replicate 18994 0) stored-procs
+  code-is : code ≡ programStored (replicate 10802 0) stored-procs
   code-is =
-      tells .words [] [] [] [] (empty 32) (empty 16) (length-replicate {A = ℕ} 18994 0) (omega (arith, nodes, nodes-kept (properties (a .procs)) calls-all (a .procs))) (a .limited .fewCommands) (a .limited .fewProcedures)
-      ∙ ap (λ (l : List Name). programStored (replicate 18994 0) (map (procOf (withNames [] l) (withNames [] (gather callsOf (a .procs) ++ []))) (a .procs))) (append-nil (gather propsOf (a .procs)))
-      ∙ ap (λ (l : List Name). programStored (replicate 18994 0) (map (procOf (withNames [] (gather propsOf (a .procs))) (withNames [] l)) (a .procs))) (append-nil (gather callsOf (a .procs)))
+      tells .words [] [] [] [] (empty 32) (empty 16) (length-replicate {A = ℕ} 10802 0) (omega (arith, nodes, nodes-kept (properties (a .procs)) calls-all (a .procs))) (a .limited .fewCommands) (a .limited .fewProcedures)
+      ∙ ap (λ (l : List Name). programStored (replicate 10802 0) (map (procOf (withNames [] l) (withNames [] (gather callsOf (a .procs) ++ []))) (a .procs))) (append-nil (gather propsOf (a .procs)))
+      ∙ ap (λ (l : List Name). programStored (replicate 10802 0) (map (procOf (withNames [] (gather propsOf (a .procs))) (withNames [] l)) (a .procs))) (append-nil (gather callsOf (a .procs)))
       ∙ (unfold properties distinct in refl)
 
   commands-are : nc ≡ length (bodies stored-procs)
@@ -157,13 +157,13 @@ module _ {s props calls procs code : List ℕ} {next np nc : ℕ} {wide past une
   pub words-are : {code′ : List ℕ} → Finishes s calls procs nc code code′ → code′ ≡ programWords p
   words-are f =
       f .stored
-      ∙ ap (λ (l : List ℕ). set (set l 0 (getD procs 32 0)) 1 (placeOf (bytes "main") (map (nameAt s) (take (getD procs 32 0) procs)))) (linked ∙ ap (programStored (replicate 18994 0)) procedures-are)
-      ∙ ap (λ (n : ℕ). set (set (programStored (replicate 18994 0) (p .procedures)) 0 n) 1 (placeOf (bytes "main") (map (nameAt s) (take (getD procs 32 0) procs)))) counted
-      ∙ ap (set (set (programStored (replicate 18994 0) (p .procedures)) 0 (length (p .procedures))) 1) main-is
+      ∙ ap (λ (l : List ℕ). set (set l 0 (getD procs 32 0)) 1 (placeOf (bytes "main") (map (nameAt s) (take (getD procs 32 0) procs)))) (linked ∙ ap (programStored (replicate 10802 0)) procedures-are)
+      ∙ ap (λ (n : ℕ). set (set (programStored (replicate 10802 0) (p .procedures)) 0 n) 1 (placeOf (bytes "main") (map (nameAt s) (take (getD procs 32 0) procs)))) counted
+      ∙ ap (set (set (programStored (replicate 10802 0) (p .procedures)) 0 (length (p .procedures))) 1) main-is
       ∙ program-joined p (passed-well-formed a)
     where
-      linked : f .linked ≡ programStored (replicate 18994 0) (map (relinkProc (calleeIn s calls procs (getD procs 32 0))) stored-procs)
-      linked = f .links .words (replicate 18994 0) stored-procs (length-replicate {A = ℕ} 18994 0) code-is commands-are (omega (arith, commands-are, few-commands)) (omega (arith, length-map (a .procs) (procOf (properties (a .procs)) calls-all), a .limited .fewProcedures)) nodes
+      linked : f .linked ≡ programStored (replicate 10802 0) (map (relinkProc (calleeIn s calls procs (getD procs 32 0))) stored-procs)
+      linked = f .links .words (replicate 10802 0) stored-procs (length-replicate {A = ℕ} 10802 0) code-is commands-are (omega (arith, commands-are, few-commands)) (omega (arith, length-map (a .procs) (procOf (properties (a .procs)) calls-all), a .limited .fewProcedures)) nodes
 
   pub names-are : (k : ℕ) → k < length (p .procedures) → nameAt s (getD procs k 0) ≡ procedureAt p k .name
   names-are k h =
@@ -185,14 +185,14 @@ finishes {s} {calls} {procs} {code} {linked} {commands} {n} {m} e l f =
     }
 
 -- a text that was read into zeroed words and a zeroed table of procedures
-module _ {s props calls names₀ names code₀ code : List ℕ} {next np nc r : ℕ} {wide past unended : Bool} (ec : code₀ ≡ replicate 18994 0) (en : names₀ ≡ replicate 33 0) (g : Goes s 1 (Tells s (replicate 33 0) props (replicate 33 0) calls names₀ names code₀ code np nc wide past unended) (procedures s) next) (short : length s ≤ 16384) (h : (c c′ : List ℕ) → Goes s 1 (Tells s (replicate 33 0) props (replicate 33 0) calls (replicate 33 0) names c c′ np nc wide past unended) (procedures s) next → r ≡ textAnswer (tested (procedures s))) where
-  told : Goes s 1 (Tells s (replicate 33 0) props (replicate 33 0) calls (replicate 33 0) names (replicate 18994 0) code np nc wide past unended) (procedures s) next
+module _ {s props calls names₀ names code₀ code : List ℕ} {next np nc r : ℕ} {wide past unended : Bool} (ec : code₀ ≡ replicate 10802 0) (en : names₀ ≡ replicate 33 0) (g : Goes s 1 (Tells s (replicate 33 0) props (replicate 33 0) calls names₀ names code₀ code np nc wide past unended) (procedures s) next) (short : length s ≤ 16384) (h : (c c′ : List ℕ) → Goes s 1 (Tells s (replicate 33 0) props (replicate 33 0) calls (replicate 33 0) names c c′ np nc wide past unended) (procedures s) next → r ≡ textAnswer (tested (procedures s))) where
+  told : Goes s 1 (Tells s (replicate 33 0) props (replicate 33 0) calls (replicate 33 0) names (replicate 10802 0) code np nc wide past unended) (procedures s) next
   told =
       subst (λ (l : List ℕ). Goes s 1 (Tells s (replicate 33 0) props (replicate 33 0) calls (replicate 33 0) names l code np nc wide past unended) (procedures s) next) ec
       (subst (λ (l : List ℕ). Goes s 1 (Tells s (replicate 33 0) props (replicate 33 0) calls l names code₀ code np nc wide past unended) (procedures s) next) en g)
 
   answered : r ≡ checkCall s
-  answered = answer-read s short (h (replicate 18994 0) code told)
+  answered = answer-read s short (h (replicate 10802 0) code told)
 
   pub reads-told : {code′ : List ℕ} → (r ≡ 0 → ⊥) → Reads s code′ names r
   reads-told z = reads-refused answered z

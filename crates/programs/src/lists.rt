@@ -42,8 +42,8 @@ fn body_of(
     code: &mut [u32; CODE_WORDS],
     out: usize,
 ) -> Body
-    requires { do ⌜ ((← ⟦text.len()⟧) ≤ 16384) × (out ≤ 18995) × (first ≤ 300000000) ⌝ }
-    ensures { λ r. ⌜ Goes (now (text .entry)) (suc at) (Lists (now (text .entry)) (now (vars .entry)) (now (vars .exit)) (now (props .entry)) (now (props .exit)) (now (calls .entry)) (now (calls .exit)) (now (code .entry)) (now (code .exit)) first out (r .out) (r .count) (r .jump) (r .ends)) (commands (now (text .entry)) at) (r .next) × (r .out ≤ 18995) × (r .count ≤ 16385) ⌝ }
+    requires { do ⌜ ((← ⟦text.len()⟧) ≤ 16384) × (out ≤ 10802) × (first ≤ 300000000) ⌝ }
+    ensures { λ r. ⌜ Goes (now (text .entry)) (suc at) (Lists (now (text .entry)) (now (vars .entry)) (now (vars .exit)) (now (props .entry)) (now (props .exit)) (now (calls .entry)) (now (calls .exit)) (now (code .entry)) (now (code .exit)) first out (r .out) (r .count) (r .jump) (r .ends)) (commands (now (text .entry)) at) (r .next) × (r .out ≤ 10802) × (r .count ≤ 16385) ⌝ }
 {
     let mut i = at;
     let mut o = out;
@@ -98,8 +98,8 @@ fn procedure_of(
     code: &mut [u32; CODE_WORDS],
     out: usize,
 ) -> Declared
-    requires { do ⌜ ((← ⟦text.len()⟧) ≤ 16384) × (out ≤ 18995) × (first ≤ 300000000) ⌝ }
-    ensures { λ r. ⌜ Goes (now (text .entry)) (suc at) (Declares (now (text .entry)) (now (props .entry)) (now (props .exit)) (now (calls .entry)) (now (calls .exit)) (now (procs .entry)) (now (procs .exit)) (now (code .entry)) (now (code .exit)) number first out (r .out) (r .count) (r .wide) (r .past) (r .unended)) (procedure (now (text .entry)) at) (r .next) × (r .out ≤ 18995) × (r .count ≤ 16385) ⌝ }
+    requires { do ⌜ ((← ⟦text.len()⟧) ≤ 16384) × (out ≤ 10802) × (first ≤ 300000000) ⌝ }
+    ensures { λ r. ⌜ Goes (now (text .entry)) (suc at) (Declares (now (text .entry)) (now (props .entry)) (now (props .exit)) (now (calls .entry)) (now (calls .exit)) (now (procs .entry)) (now (procs .exit)) (now (code .entry)) (now (code .exit)) number first out (r .out) (r .count) (r .wide) (r .past) (r .unended)) (procedure (now (text .entry)) at) (r .next) × (r .out ≤ 10802) × (r .count ≤ 16385) ⌝ }
 {
     let f = forms::name(text, at);
     names::intern(text, f.value, procs, 16);

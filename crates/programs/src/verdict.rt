@@ -123,7 +123,7 @@ fn finish(
 // Reads a text into the words of its program, and its procedures' names into a table; both are lent zeroed. The answer is the text's
 // refusal, or 0.
 pub fn read_program(text: &[u8], code: &mut [u32; CODE_WORDS], names: &mut [u32; 33]) -> u32
-    ensures { λ r. ⌜ (now (code .entry) ≡ replicate 18994 0 → now (names .entry) ≡ replicate 33 0 → Reads (now (text .entry)) (now (code .exit)) (now (names .exit)) r) ⌝ }
+    ensures { λ r. ⌜ (now (code .entry) ≡ replicate 10802 0 → now (names .entry) ≡ replicate 33 0 → Reads (now (text .entry)) (now (code .exit)) (now (names .exit)) r) ⌝ }
 {
     if text.len() > 16384 {
         return 3;

@@ -5,154 +5,145 @@ use mathlib.Core.Bool.{Bool, true, false}
 use mathlib.Core.List.{List, [], _∷_, _++_, append-assoc}
 use native.Mathlib.Omega.{arith}
 use native.Mathlib.Nat.{add-zero}
-use lib.ListN.{length, length-append}
+use native.Mathlib.Numerals.{add-one}
+use lib.ListN.{length, set}
 use lib.Seq.{sets}
 use Rattle.gil.specs.Tree.{Op, Expr, num, bool, var, neg, bin, Cmd, assign, ifgoto, call, lookup, mutate, dispose, uSym, iSym, return, fail, vanish, Name}
 use Rattle.gil.specs.Names.{exprVars, cmdVars, cmdProperties, cmdCalls, isEnd, renameExpr, renameCmd, withName, withNames}
 use Rattle.code.specs.Code as Code
-use Rattle.code.specs.Code.{exprWords, cmdNodes, cmdWords}
+use Rattle.code.specs.Code.{node, exprWords, cmdNodes, cmdWords}
+use Rattle.code.specs.Accepted.Sizes.{exprSize, cmdSize}
+use Rattle.code.specs.Accepted.Numbered.{exprWords-size, renameExpr-size}
 use Rattle.gil.specs.Layout.{bit}
 use Rattle.names.specs.Lists.{withNames-append}
 use Rattle.names.specs.Tables.{Kept, Interned, Grows, grows-none, grows-one, grows-then, numberIn, number-stays}
-use Rattle.reader.specs.Stores.{putNode, putCommand, upFrom, node-long, node-sets, up-room, sets-append, node-before, command-long, command-sets}
-
--- how many words an expression takes
-unfoldable pub exprSize : Expr Name → ℕ
-exprSize (num n) = 2
-exprSize (bool b) = 2
-exprSize (var x) = 2
-exprSize (neg e) = 2 + exprSize e
-exprSize (bin o a b) = 2 + exprSize a + exprSize b
+use Rattle.reader.specs.Stores.{put, putNumber, afterNumber, putCommand, upFrom, put-long, put-set, number-long, number-sets, number-room, up-room, sets-append, node-before, command-long, command-sets}
 
 -- an expression's words, its variables numbered by a table that took in `all` names
 unfoldable pub nodesOf : List Name → Expr Name → List ℕ
 nodesOf all e = exprWords (renameExpr (numberIn 16 all) e)
 
 pub nodes-size : (all : List Name) (e : Expr Name) → length (nodesOf all e) ≡ exprSize e
-unfolding nodesOf exprSize exprWords renameExpr
-nodes-size all (num n) = refl
-nodes-size all (bool b) = refl
-nodes-size all (var x) = refl
-nodes-size all (neg e) = let h = nodes-size all e in omega arith
-nodes-size all (bin o a b) = let h = nodes-size all a in let k = nodes-size all b in omega (arith, length-append (exprWords (renameExpr (numberIn 16 all) a)) (exprWords (renameExpr (numberIn 16 all) b)))
+unfolding nodesOf
+nodes-size all e = exprWords-size (renameExpr (numberIn 16 all) e) ∙ renameExpr-size (numberIn 16 all) e
 
 -- an expression: its variables, in the table `t`, and its words, from `out` on; `more` are the names that the table takes in later
 pub record Wrote (s t t′ code code′ : List ℕ) (out out′ : ℕ) (e : Expr Name) : Type 0 where
   pub vars : Grows s 16 t t′ (exprVars e)
   pub long : length code′ ≡ length code
-  pub size : out + exprSize e ≤ 18994 → out′ ≡ out + exprSize e
-  pub words : (all more : List Name) → Kept s 16 t all → length code ≡ 18994 → out + exprSize e ≤ 18994 → code′ ≡ sets code out (nodesOf (withNames all (exprVars e ++ more)) e)
+  pub size : out + exprSize e ≤ 10802 → out′ ≡ out + exprSize e
+  pub words : (all more : List Name) → Kept s 16 t all → length code ≡ 10802 → out + exprSize e ≤ 10802 → code′ ≡ sets code out (nodesOf (withNames all (exprVars e ++ more)) e)
 
 module _ {s t t′ code code′ : List ℕ} {out out′ : ℕ} where
-  pub wrote-var : {w : Name} {r : ℕ} → Interned s 16 t t′ w r → out′ ≡ upFrom out → code′ ≡ putNode code out 3 r → Wrote s t t′ code code′ out out′ (var w)
+  pub wrote-var : {w : Name} {r : ℕ} → Interned s 16 t t′ w r → out′ ≡ upFrom out → code′ ≡ put code out (node 1 r) → Wrote s t t′ code code′ out out′ (var w)
   unfolding exprVars exprSize
   wrote-var {w} {r} i o c =
       record {
         vars = grows-one i;
-        long = ap length c ∙ node-long code out 3 r;
+        long = ap length c ∙ put-long code out (node 1 r);
         size = λ h. o ∙ up-room out h;
-        words = λ all more k l h. c ∙ node-sets code out 3 r l ∙ ap (λ (n : ℕ). sets code out (3 ∷ n ∷ [])) (i .number all k ∙ stays all more) ∙ is all more;
+        words = λ all more k l h. c ∙ put-set code out (node 1 r) l ∙ ap (λ (n : ℕ). set code out (node 1 n)) (i .number all k ∙ stays all more) ∙ is all more;
       }
     where
       stays : (all more : List Name) → numberIn 16 (withName all w) w ≡ numberIn 16 (withNames all (w ∷ more)) w
       stays all more = sym (number-stays 16 all w more)
 
-      is : (all more : List Name) → sets code out (3 ∷ numberIn 16 (withNames all (w ∷ more)) w ∷ []) ≡ sets code out (nodesOf (withNames all (w ∷ more)) (var w))
+      is : (all more : List Name) → set code out (node 1 (numberIn 16 (withNames all (w ∷ more)) w)) ≡ sets code out (nodesOf (withNames all (w ∷ more)) (var w))
       is all more = unfold nodesOf exprWords renameExpr in refl
 
 module _ {s t code code′ : List ℕ} {out out′ : ℕ} where
-  pub wrote-num : (n : ℕ) → out′ ≡ upFrom out → code′ ≡ putNode code out 1 n → Wrote s t t code code′ out out′ (num n)
+  pub wrote-num : (n : ℕ) → out′ ≡ afterNumber out n → code′ ≡ putNumber code out n → Wrote s t t code code′ out out′ (num n)
   unfolding exprVars exprSize nodesOf exprWords renameExpr
   wrote-num n o c =
       record {
         vars = grows-none;
-        long = ap length c ∙ node-long code out 1 n;
-        size = λ h. o ∙ up-room out h;
-        words = λ all more k l h. c ∙ node-sets code out 1 n l;
+        long = ap length c ∙ number-long code out n;
+        size = λ h. o ∙ number-room out n h;
+        words = λ all more k l h. c ∙ number-sets code out n l h;
       }
 
-  pub wrote-bool : (b : Bool) (v : ℕ) → v ≡ bit b → out′ ≡ upFrom out → code′ ≡ putNode code out 2 v → Wrote s t t code code′ out out′ (bool b)
+  pub wrote-bool : (b : Bool) (v : ℕ) → v ≡ node 2 (bit b) → out′ ≡ upFrom out → code′ ≡ put code out v → Wrote s t t code code′ out out′ (bool b)
   unfolding exprVars exprSize nodesOf exprWords renameExpr
   wrote-bool b v z o c =
       record {
         vars = grows-none;
-        long = ap length c ∙ node-long code out 2 v;
+        long = ap length c ∙ put-long code out v;
         size = λ h. o ∙ up-room out h;
-        words = λ all more k l h. c ∙ node-sets code out 2 v l ∙ ap (λ (n : ℕ). sets code out (2 ∷ n ∷ [])) z;
+        words = λ all more k l h. c ∙ put-set code out v l ∙ ap (set code out) z;
       }
 
-pub wrote-neg : {s t t′ code code₁ code′ : List ℕ} {out out₁ out′ : ℕ} {e : Expr Name} → code₁ ≡ putNode code out 4 0 → out₁ ≡ upFrom out → Wrote s t t′ code₁ code′ out₁ out′ e → Wrote s t t′ code code′ out out′ (neg e)
+pub wrote-neg : {s t t′ code code₁ code′ : List ℕ} {out out₁ out′ : ℕ} {e : Expr Name} → code₁ ≡ put code out (node 4 0) → out₁ ≡ upFrom out → Wrote s t t′ code₁ code′ out₁ out′ e → Wrote s t t′ code code′ out out′ (neg e)
 unfolding exprVars
 wrote-neg {s} {t} {t′} {code} {code₁} {code′} {out} {out₁} {out′} {e} c o w =
     record {
       vars = w .vars;
-      long = w .long ∙ ap length c ∙ node-long code out 4 0;
+      long = w .long ∙ ap length c ∙ put-long code out (node 4 0);
       size = at-size;
       words = at-words;
     }
   where
-    room : out + exprSize (neg e) ≤ 18994 → out + 2 + exprSize e ≤ 18994
+    room : out + exprSize (neg e) ≤ 10802 → out + 1 + exprSize e ≤ 10802
     room h = unfold exprSize in omega arith
 
-    placed : out + exprSize (neg e) ≤ 18994 → out₁ ≡ out + 2
+    placed : out + exprSize (neg e) ≤ 10802 → out₁ ≡ out + 1
     placed h = o ∙ up-room out (omega (arith, room h))
 
-    at-size : out + exprSize (neg e) ≤ 18994 → out′ ≡ out + exprSize (neg e)
+    at-size : out + exprSize (neg e) ≤ 10802 → out′ ≡ out + exprSize (neg e)
     at-size h = w .size (omega (arith, room h, placed h)) ∙ (unfold exprSize in omega (arith, placed h))
 
-    at-words : (all more : List Name) → Kept s 16 t all → length code ≡ 18994 → out + exprSize (neg e) ≤ 18994 → code′ ≡ sets code out (nodesOf (withNames all (exprVars e ++ more)) (neg e))
+    at-words : (all more : List Name) → Kept s 16 t all → length code ≡ 10802 → out + exprSize (neg e) ≤ 10802 → code′ ≡ sets code out (nodesOf (withNames all (exprVars e ++ more)) (neg e))
     at-words all more k l h =
-        w .words all more k (ap length c ∙ node-long code out 4 0 ∙ l) (omega (arith, room h, placed h))
+        w .words all more k (ap length c ∙ put-long code out (node 4 0) ∙ l) (omega (arith, room h, placed h))
         ∙ ap (λ (n : ℕ). sets code₁ n (nodesOf (withNames all (exprVars e ++ more)) e)) (placed h)
-        ∙ ap (λ (x : List ℕ). sets x (out + 2) (nodesOf (withNames all (exprVars e ++ more)) e)) (c ∙ node-sets code out 4 0 l)
-        ∙ (let d : out + 2 ≡ suc (suc out) = omega arith in ap (λ (n : ℕ). sets (sets code out (4 ∷ 0 ∷ [])) n (nodesOf (withNames all (exprVars e ++ more)) e)) d)
+        ∙ ap (λ (x : List ℕ). sets x (out + 1) (nodesOf (withNames all (exprVars e ++ more)) e)) (c ∙ put-set code out (node 4 0) l)
+        ∙ ap (λ (n : ℕ). sets (set code out (node 4 0)) n (nodesOf (withNames all (exprVars e ++ more)) e)) (add-one out)
         ∙ (unfold nodesOf exprWords renameExpr in refl)
 
 -- an operator's node stands before the words of its operands, and is stored between them
-module _ {s t t₁ t′ code code₁ code₂ code′ : List ℕ} {out₀ out₁ out′ len op : ℕ} {a b : Expr Name} (out : ℕ) (o : Op) (u : out₀ ≡ upFrom out) (wa : Wrote s t t₁ code code₁ out₀ out₁ a) (q : op ≡ Code.opWord o) (c : code₂ ≡ putNode code₁ out op len) (l : out + 2 ≤ out₁ → len ≡ out₁ - (out + 2)) (wb : Wrote s t₁ t′ code₂ code′ out₁ out′ b) where
-  room : out + exprSize (bin o a b) ≤ 18994 → out + 2 + exprSize a + exprSize b ≤ 18994
+module _ {s t t₁ t′ code code₁ code₂ code′ : List ℕ} {out₀ out₁ out′ len op : ℕ} {a b : Expr Name} (out : ℕ) (o : Op) (u : out₀ ≡ upFrom out) (wa : Wrote s t t₁ code code₁ out₀ out₁ a) (q : op ≡ Code.opWord o) (c : code₂ ≡ put code₁ out (node op len)) (l : out + 1 ≤ out₁ → len ≡ out₁ - (out + 1)) (wb : Wrote s t₁ t′ code₂ code′ out₁ out′ b) where
+  room : out + exprSize (bin o a b) ≤ 10802 → out + 1 + exprSize a + exprSize b ≤ 10802
   unfolding exprSize
   room h = omega arith
 
-  start : out + exprSize (bin o a b) ≤ 18994 → out₀ ≡ out + 2
+  start : out + exprSize (bin o a b) ≤ 10802 → out₀ ≡ out + 1
   start h = u ∙ up-room out (omega (arith, room h))
 
-  middle : out + exprSize (bin o a b) ≤ 18994 → out₁ ≡ out + 2 + exprSize a
+  middle : out + exprSize (bin o a b) ≤ 10802 → out₁ ≡ out + 1 + exprSize a
   middle h = let z = start h in wa .size (omega (arith, room h)) ∙ omega arith
 
-  end : out + exprSize (bin o a b) ≤ 18994 → out′ ≡ out + exprSize (bin o a b)
+  end : out + exprSize (bin o a b) ≤ 10802 → out′ ≡ out + exprSize (bin o a b)
   unfolding exprSize
   end h = let z = middle h in wb .size (omega (arith, room h)) ∙ omega arith
 
   long₂ : length code₂ ≡ length code
-  long₂ = ap length c ∙ node-long code₁ out op len ∙ wa .long
+  long₂ = ap length c ∙ put-long code₁ out (node op len) ∙ wa .long
 
-  module _ (all more : List Name) (k : Kept s 16 t all) (lc : length code ≡ 18994) (h : out + exprSize (bin o a b) ≤ 18994) where
-    first-words : code₁ ≡ sets code (out + 2) (nodesOf (withNames all (exprVars a ++ (exprVars b ++ more))) a)
+  module _ (all more : List Name) (k : Kept s 16 t all) (lc : length code ≡ 10802) (h : out + exprSize (bin o a b) ≤ 10802) where
+    first-words : code₁ ≡ sets code (out + 1) (nodesOf (withNames all (exprVars a ++ (exprVars b ++ more))) a)
     first-words = let z = start h in wa .words all (exprVars b ++ more) k lc (omega (arith, room h)) ∙ ap (λ (n : ℕ). sets code n (nodesOf (withNames all (exprVars a ++ (exprVars b ++ more))) a)) z
 
     counted : len ≡ exprSize a
     counted = let z = middle h in l (omega arith) ∙ omega arith
 
-    both-words : code₂ ≡ sets code out (op ∷ len ∷ nodesOf (withNames all (exprVars a ++ (exprVars b ++ more))) a)
-    both-words = c ∙ node-sets code₁ out op len (wa .long ∙ lc) ∙ ap (λ (x : List ℕ). sets x out (op ∷ len ∷ [])) first-words ∙ node-before code out op len (nodesOf (withNames all (exprVars a ++ (exprVars b ++ more))) a)
+    both-words : code₂ ≡ sets code out (node op len ∷ nodesOf (withNames all (exprVars a ++ (exprVars b ++ more))) a)
+    both-words = c ∙ put-set code₁ out (node op len) (wa .long ∙ lc) ∙ ap (λ (x : List ℕ). set x out (node op len)) first-words ∙ node-before code out (node op len) (nodesOf (withNames all (exprVars a ++ (exprVars b ++ more))) a)
 
-    second-words : code′ ≡ sets code₂ (out + 2 + exprSize a) (nodesOf (withNames all (exprVars a ++ (exprVars b ++ more))) b)
+    second-words : code′ ≡ sets code₂ (out + 1 + exprSize a) (nodesOf (withNames all (exprVars a ++ (exprVars b ++ more))) b)
     second-words =
         let z = middle h in
         wb .words (withNames all (exprVars a)) more (wa .vars .kept all k) (long₂ ∙ lc) (omega (arith, room h))
         ∙ ap (λ (n : ℕ). sets code₂ n (nodesOf (withNames (withNames all (exprVars a)) (exprVars b ++ more)) b)) z
-        ∙ ap (λ (ns : List Name). sets code₂ (out + 2 + exprSize a) (nodesOf ns b)) (sym (withNames-append all (exprVars a) (exprVars b ++ more)))
+        ∙ ap (λ (ns : List Name). sets code₂ (out + 1 + exprSize a) (nodesOf ns b)) (sym (withNames-append all (exprVars a) (exprVars b ++ more)))
 
-    joined : code′ ≡ sets code out (op ∷ len ∷ (nodesOf (withNames all (exprVars a ++ (exprVars b ++ more))) a ++ nodesOf (withNames all (exprVars a ++ (exprVars b ++ more))) b))
+    joined : code′ ≡ sets code out (node op len ∷ (nodesOf (withNames all (exprVars a ++ (exprVars b ++ more))) a ++ nodesOf (withNames all (exprVars a ++ (exprVars b ++ more))) b))
     joined =
-        let z : out + 2 + exprSize a ≡ out + length (op ∷ len ∷ nodesOf (withNames all (exprVars a ++ (exprVars b ++ more))) a) = omega (arith, nodes-size (withNames all (exprVars a ++ (exprVars b ++ more))) a) in
+        let z : out + 1 + exprSize a ≡ out + length (node op len ∷ nodesOf (withNames all (exprVars a ++ (exprVars b ++ more))) a) = omega (arith, nodes-size (withNames all (exprVars a ++ (exprVars b ++ more))) a) in
         second-words
-        ∙ ap (λ (x : List ℕ). sets x (out + 2 + exprSize a) (nodesOf (withNames all (exprVars a ++ (exprVars b ++ more))) b)) both-words
-        ∙ ap (λ (n : ℕ). sets (sets code out (op ∷ len ∷ nodesOf (withNames all (exprVars a ++ (exprVars b ++ more))) a)) n (nodesOf (withNames all (exprVars a ++ (exprVars b ++ more))) b)) z
-        ∙ sym (sets-append code out (op ∷ len ∷ nodesOf (withNames all (exprVars a ++ (exprVars b ++ more))) a) (nodesOf (withNames all (exprVars a ++ (exprVars b ++ more))) b))
+        ∙ ap (λ (x : List ℕ). sets x (out + 1 + exprSize a) (nodesOf (withNames all (exprVars a ++ (exprVars b ++ more))) b)) both-words
+        ∙ ap (λ (n : ℕ). sets (sets code out (node op len ∷ nodesOf (withNames all (exprVars a ++ (exprVars b ++ more))) a)) n (nodesOf (withNames all (exprVars a ++ (exprVars b ++ more))) b)) z
+        ∙ sym (sets-append code out (node op len ∷ nodesOf (withNames all (exprVars a ++ (exprVars b ++ more))) a) (nodesOf (withNames all (exprVars a ++ (exprVars b ++ more))) b))
 
-    node-is : (ns : List Name) → Code.opWord o ∷ length (nodesOf ns a) ∷ (nodesOf ns a ++ nodesOf ns b) ≡ nodesOf ns (bin o a b)
+    node-is : (ns : List Name) → node (Code.opWord o) (length (nodesOf ns a)) ∷ (nodesOf ns a ++ nodesOf ns b) ≡ nodesOf ns (bin o a b)
     unfolding nodesOf exprWords renameExpr
     node-is ns = refl
 
@@ -160,8 +151,8 @@ module _ {s t t₁ t′ code code₁ code₂ code′ : List ℕ} {out₀ out₁ 
     whole =
         let ns = withNames all (exprVars a ++ (exprVars b ++ more)) in
         joined
-        ∙ ap (λ (i : ℕ). sets code out (i ∷ len ∷ (nodesOf ns a ++ nodesOf ns b))) q
-        ∙ ap (λ (i : ℕ). sets code out (Code.opWord o ∷ i ∷ (nodesOf ns a ++ nodesOf ns b))) (counted ∙ sym (nodes-size ns a))
+        ∙ ap (λ (i : ℕ). sets code out (node i len ∷ (nodesOf ns a ++ nodesOf ns b))) q
+        ∙ ap (λ (i : ℕ). sets code out (node (Code.opWord o) i ∷ (nodesOf ns a ++ nodesOf ns b))) (counted ∙ sym (nodes-size ns a))
         ∙ ap (sets code out) (node-is ns)
         ∙ ap (λ (ws : List Name). sets code out (nodesOf (withNames all ws) (bin o a b))) grouped
       where
@@ -188,20 +179,6 @@ jumpAt (return e) = 0
 jumpAt (fail e) = 0
 jumpAt vanish = 0
 
--- how many words a command's expressions take
-unfoldable pub cmdSize : Cmd Name → ℕ
-cmdSize (assign v e) = exprSize e
-cmdSize (ifgoto e n) = exprSize e
-cmdSize (call v f e) = exprSize e
-cmdSize (lookup v e p) = exprSize e
-cmdSize (mutate v e p d) = exprSize e + exprSize d
-cmdSize (dispose v e) = exprSize e
-cmdSize (uSym v j) = 0
-cmdSize (iSym v j) = 0
-cmdSize (return e) = exprSize e
-cmdSize (fail e) = exprSize e
-cmdSize vanish = 0
-
 -- a command with its names numbered by tables that took in the names `vs`, `qs` and `fs`; callees are linked later
 unfoldable pub numbered : List Name → List Name → List Name → Cmd Name → Cmd ℕ
 numbered vs qs fs c = renameCmd (numberIn 16 vs) (numberIn 32 qs) (numberIn 16 fs) c
@@ -216,8 +193,8 @@ pub record Sets (s : List ℕ) (v : Name) (t t′ p p′ k k′ code code′ : L
   pub on : jumpAt c ≡ 0
   pub stays : isEnd c ≡ false
   pub long : length code′ ≡ length code
-  pub size : out + cmdSize c ≤ 18994 → out′ ≡ out + cmdSize c
-  pub words : (vs vm qs qm fs fm : List Name) → Kept s 16 t vs → Kept s 32 p qs → Kept s 16 k fs → length code ≡ 18994 → out + cmdSize c ≤ 18994 → (code′ ≡ sets code out (cmdNodes (numbered (withNames vs (reads ++ vm)) (withNames qs (cmdProperties c ++ qm)) (withNames fs (cmdCalls c ++ fm)) c))) × (kind ∷ numberIn 16 (withNames vs (reads ++ vm)) v ∷ place ∷ other ∷ second ∷ [] ≡ cmdWords out (numbered (withNames vs (reads ++ vm)) (withNames qs (cmdProperties c ++ qm)) (withNames fs (cmdCalls c ++ fm)) c))
+  pub size : out + cmdSize c ≤ 10802 → out′ ≡ out + cmdSize c
+  pub words : (vs vm qs qm fs fm : List Name) → Kept s 16 t vs → Kept s 32 p qs → Kept s 16 k fs → length code ≡ 10802 → out + cmdSize c ≤ 10802 → (code′ ≡ sets code out (cmdNodes (numbered (withNames vs (reads ++ vm)) (withNames qs (cmdProperties c ++ qm)) (withNames fs (cmdCalls c ++ fm)) c))) × (kind ∷ numberIn 16 (withNames vs (reads ++ vm)) v ∷ place ∷ other ∷ second ∷ [] ≡ cmdWords out (numbered (withNames vs (reads ++ vm)) (withNames qs (cmdProperties c ++ qm)) (withNames fs (cmdCalls c ++ fm)) c))
 
 -- a command, number `n` of all
 pub record Does (s t t′ p p′ k k′ code code′ : List ℕ) (n out out′ jump : ℕ) (ends : Bool) (c : Cmd Name) : Type 0 where
@@ -227,8 +204,8 @@ pub record Does (s t t′ p p′ k k′ code code′ : List ℕ) (n out out′ j
   pub jumps : jump ≡ jumpAt c
   pub ending : ends ≡ isEnd c
   pub long : length code′ ≡ length code
-  pub size : out + cmdSize c ≤ 18994 → out′ ≡ out + cmdSize c
-  pub words : (vs vm qs qm fs fm : List Name) → Kept s 16 t vs → Kept s 32 p qs → Kept s 16 k fs → length code ≡ 18994 → out + cmdSize c ≤ 18994 → n < 512 → code′ ≡ sets (sets code out (cmdNodes (numbered (withNames vs (cmdVars c ++ vm)) (withNames qs (cmdProperties c ++ qm)) (withNames fs (cmdCalls c ++ fm)) c))) (50 + 5 * n) (cmdWords out (numbered (withNames vs (cmdVars c ++ vm)) (withNames qs (cmdProperties c ++ qm)) (withNames fs (cmdCalls c ++ fm)) c))
+  pub size : out + cmdSize c ≤ 10802 → out′ ≡ out + cmdSize c
+  pub words : (vs vm qs qm fs fm : List Name) → Kept s 16 t vs → Kept s 32 p qs → Kept s 16 k fs → length code ≡ 10802 → out + cmdSize c ≤ 10802 → n < 512 → code′ ≡ sets (sets code out (cmdNodes (numbered (withNames vs (cmdVars c ++ vm)) (withNames qs (cmdProperties c ++ qm)) (withNames fs (cmdCalls c ++ fm)) c))) (50 + 5 * n) (cmdWords out (numbered (withNames vs (cmdVars c ++ vm)) (withNames qs (cmdProperties c ++ qm)) (withNames fs (cmdCalls c ++ fm)) c))
 
 pub sets-plain : {s t t′ p k code code′ : List ℕ} {out out′ place : ℕ} {v : Name} {e : Expr Name} → Wrote s t t′ code code′ out out′ e → place ≡ out → Sets s v t t′ p p k k code code′ out out′ 1 place 0 0 (assign v e)
 unfolding nodesOf cmdVars cmdProperties cmdCalls jumpAt isEnd cmdSize numbered renameCmd cmdNodes cmdWords
@@ -328,13 +305,13 @@ sets-i {out = out} =
 
 -- two expressions in a row
 module _ {s t t₁ t′ code code₁ code′ : List ℕ} {out out₁ out′ : ℕ} {e d : Expr Name} (w : Wrote s t t₁ code code₁ out out₁ e) (x : Wrote s t₁ t′ code₁ code′ out₁ out′ d) where
-  row-first : out + (exprSize e + exprSize d) ≤ 18994 → out₁ ≡ out + exprSize e
+  row-first : out + (exprSize e + exprSize d) ≤ 10802 → out₁ ≡ out + exprSize e
   row-first h = w .size (omega arith)
 
-  row-size : out + (exprSize e + exprSize d) ≤ 18994 → out′ ≡ out + (exprSize e + exprSize d)
+  row-size : out + (exprSize e + exprSize d) ≤ 10802 → out′ ≡ out + (exprSize e + exprSize d)
   row-size h = let z = row-first h in x .size (omega arith) ∙ omega arith
 
-  row-words : (vs vm : List Name) → Kept s 16 t vs → length code ≡ 18994 → out + (exprSize e + exprSize d) ≤ 18994 → code′ ≡ sets code out (nodesOf (withNames vs ((exprVars e ++ exprVars d) ++ vm)) e ++ nodesOf (withNames vs ((exprVars e ++ exprVars d) ++ vm)) d)
+  row-words : (vs vm : List Name) → Kept s 16 t vs → length code ≡ 10802 → out + (exprSize e + exprSize d) ≤ 10802 → code′ ≡ sets code out (nodesOf (withNames vs ((exprVars e ++ exprVars d) ++ vm)) e ++ nodesOf (withNames vs ((exprVars e ++ exprVars d) ++ vm)) d)
   row-words vs vm kv l h =
       let z = row-first h in
       let ns = withNames vs (exprVars e ++ (exprVars d ++ vm)) in
@@ -385,7 +362,7 @@ does-setting {s} {t} {t₁} {t′} {p} {k = k} {code = code} {code₁ = code₁}
       words = all;
     }
   where
-    all : (vs vm qs qm fs fm : List Name) → Kept s 16 t vs → Kept s 32 p qs → Kept s 16 k fs → length code ≡ 18994 → out + cmdSize c ≤ 18994 → n < 512 → code′ ≡ sets (sets code out (cmdNodes (numbered (withNames vs (cmdVars c ++ vm)) (withNames qs (cmdProperties c ++ qm)) (withNames fs (cmdCalls c ++ fm)) c))) (50 + 5 * n) (cmdWords out (numbered (withNames vs (cmdVars c ++ vm)) (withNames qs (cmdProperties c ++ qm)) (withNames fs (cmdCalls c ++ fm)) c))
+    all : (vs vm qs qm fs fm : List Name) → Kept s 16 t vs → Kept s 32 p qs → Kept s 16 k fs → length code ≡ 10802 → out + cmdSize c ≤ 10802 → n < 512 → code′ ≡ sets (sets code out (cmdNodes (numbered (withNames vs (cmdVars c ++ vm)) (withNames qs (cmdProperties c ++ qm)) (withNames fs (cmdCalls c ++ fm)) c))) (50 + 5 * n) (cmdWords out (numbered (withNames vs (cmdVars c ++ vm)) (withNames qs (cmdProperties c ++ qm)) (withNames fs (cmdCalls c ++ fm)) c))
     all vs vm qs qm fs fm kv kq kf l h m =
         let both = w .words (withName vs v) vm qs qm fs fm (i .kept vs kv) kq kf l h in
         e
@@ -414,12 +391,12 @@ does-one {s} {t} {t′} {p} {k} {code} {code₁} {code′} {n} {out} {place = pl
       jumps = ej;
       ending = eb;
       long = ap length f ∙ command-long code₁ n kind a place 0 0 ∙ w .long;
-      size = λ h. w .size (subst (λ (m : ℕ). out + m ≤ 18994) es h) ∙ ap (λ (m : ℕ). out + m) (sym es);
+      size = λ h. w .size (subst (λ (m : ℕ). out + m ≤ 10802) es h) ∙ ap (λ (m : ℕ). out + m) (sym es);
       words = λ vs vm qs qm fs fm kv kq kf l h m.
           f
           ∙ command-sets code₁ n kind a place 0 0 (w .long ∙ l) m
           ∙ ap (λ (x : ℕ). sets code₁ (50 + 5 * n) (kind ∷ a ∷ x ∷ 0 ∷ 0 ∷ [])) z
-          ∙ ap (λ (b : List ℕ). sets b (50 + 5 * n) (kind ∷ a ∷ out ∷ 0 ∷ 0 ∷ [])) (w .words vs vm kv l (subst (λ (m : ℕ). out + m ≤ 18994) es h) ∙ ap (λ (ws : List Name). sets code out (nodesOf (withNames vs (ws ++ vm)) e)) (sym ev) ∙ ap (sets code out) (sym (en (withNames vs (cmdVars c ++ vm)) (withNames qs (cmdProperties c ++ qm)) (withNames fs (cmdCalls c ++ fm)))))
+          ∙ ap (λ (b : List ℕ). sets b (50 + 5 * n) (kind ∷ a ∷ out ∷ 0 ∷ 0 ∷ [])) (w .words vs vm kv l (subst (λ (m : ℕ). out + m ≤ 10802) es h) ∙ ap (λ (ws : List Name). sets code out (nodesOf (withNames vs (ws ++ vm)) e)) (sym ev) ∙ ap (sets code out) (sym (en (withNames vs (cmdVars c ++ vm)) (withNames qs (cmdProperties c ++ qm)) (withNames fs (cmdCalls c ++ fm)))))
           ∙ ap (sets (sets code out (cmdNodes (numbered (withNames vs (cmdVars c ++ vm)) (withNames qs (cmdProperties c ++ qm)) (withNames fs (cmdCalls c ++ fm)) c))) (50 + 5 * n)) (sym (ew (withNames vs (cmdVars c ++ vm)) (withNames qs (cmdProperties c ++ qm)) (withNames fs (cmdCalls c ++ fm))));
     }
 

@@ -16,6 +16,7 @@ use crate::exprs::Got;
 use crate::forms;
 use crate::store;
 use code::CODE_WORDS;
+use code::VARIABLE;
 use tokens::lexemes;
 use tokens::words;
 
@@ -45,8 +46,8 @@ fn plain(
     code: &mut [u32; CODE_WORDS],
     out: usize,
 ) -> Form
-    requires { do ⌜ ((← ⟦text.len()⟧) ≤ 16384) × (out ≤ 18995) ⌝ }
-    ensures { λ r. ⌜ ((v : Name) (p k : List ℕ) → Goes (now (text .entry)) (suc at) (Sets (now (text .entry)) v (now (vars .entry)) (now (vars .exit)) p p k k (now (code .entry)) (now (code .exit)) out (r .out) (r .kind) (r .place) (r .other) (r .second)) (assignment v (now (text .entry)) at) (r .next)) × (r .out ≤ 18995) ⌝ }
+    requires { do ⌜ ((← ⟦text.len()⟧) ≤ 16384) × (out ≤ 10802) ⌝ }
+    ensures { λ r. ⌜ ((v : Name) (p k : List ℕ) → Goes (now (text .entry)) (suc at) (Sets (now (text .entry)) v (now (vars .entry)) (now (vars .exit)) p p k k (now (code .entry)) (now (code .exit)) out (r .out) (r .kind) (r .place) (r .other) (r .second)) (assignment v (now (text .entry)) at) (r .next)) × (r .out ≤ 10802) ⌝ }
 {
     let e = exprs::expr(text, at, 8, vars, code, out);
     Form {
@@ -69,8 +70,8 @@ fn call_of(
     code: &mut [u32; CODE_WORDS],
     out: usize,
 ) -> Form
-    requires { do ⌜ ((← ⟦text.len()⟧) ≤ 16384) × (out ≤ 18995) ⌝ }
-    ensures { λ r. ⌜ ((v : Name) (p : List ℕ) → Goes (now (text .entry)) (suc at) (Sets (now (text .entry)) v (now (vars .entry)) (now (vars .exit)) p p (now (calls .entry)) (now (calls .exit)) (now (code .entry)) (now (code .exit)) out (r .out) (r .kind) (r .place) (r .other) (r .second)) (callOf v (nameAt (now (text .entry)) callee) (now (text .entry)) at) (r .next)) × (r .out ≤ 18995) ⌝ }
+    requires { do ⌜ ((← ⟦text.len()⟧) ≤ 16384) × (out ≤ 10802) ⌝ }
+    ensures { λ r. ⌜ ((v : Name) (p : List ℕ) → Goes (now (text .entry)) (suc at) (Sets (now (text .entry)) v (now (vars .entry)) (now (vars .exit)) p p (now (calls .entry)) (now (calls .exit)) (now (code .entry)) (now (code .exit)) out (r .out) (r .kind) (r .place) (r .other) (r .second)) (callOf v (nameAt (now (text .entry)) callee) (now (text .entry)) at) (r .next)) × (r .out ≤ 10802) ⌝ }
 {
     let a = forms::mark(text, at, b'(');
     let f = names::intern(text, callee, calls, 16);
@@ -94,8 +95,8 @@ fn lookup_of(
     code: &mut [u32; CODE_WORDS],
     out: usize,
 ) -> Form
-    requires { do ⌜ ((← ⟦text.len()⟧) ≤ 16384) × (out ≤ 18995) ⌝ }
-    ensures { λ r. ⌜ ((v : Name) (k : List ℕ) → Goes (now (text .entry)) (suc at) (Sets (now (text .entry)) v (now (vars .entry)) (now (vars .exit)) (now (props .entry)) (now (props .exit)) k k (now (code .entry)) (now (code .exit)) out (r .out) (r .kind) (r .place) (r .other) (r .second)) (lookupOf v (now (text .entry)) at) (r .next)) × (r .out ≤ 18995) ⌝ }
+    requires { do ⌜ ((← ⟦text.len()⟧) ≤ 16384) × (out ≤ 10802) ⌝ }
+    ensures { λ r. ⌜ ((v : Name) (k : List ℕ) → Goes (now (text .entry)) (suc at) (Sets (now (text .entry)) v (now (vars .entry)) (now (vars .exit)) (now (props .entry)) (now (props .exit)) k k (now (code .entry)) (now (code .exit)) out (r .out) (r .kind) (r .place) (r .other) (r .second)) (lookupOf v (now (text .entry)) at) (r .next)) × (r .out ≤ 10802) ⌝ }
 {
     let a = forms::mark(text, at, b'(');
     let b = forms::mark(text, a, b'[');
@@ -123,8 +124,8 @@ fn mutate_of(
     code: &mut [u32; CODE_WORDS],
     out: usize,
 ) -> Form
-    requires { do ⌜ ((← ⟦text.len()⟧) ≤ 16384) × (out ≤ 18995) ⌝ }
-    ensures { λ r. ⌜ ((v : Name) (k : List ℕ) → Goes (now (text .entry)) (suc at) (Sets (now (text .entry)) v (now (vars .entry)) (now (vars .exit)) (now (props .entry)) (now (props .exit)) k k (now (code .entry)) (now (code .exit)) out (r .out) (r .kind) (r .place) (r .other) (r .second)) (mutateOf v (now (text .entry)) at) (r .next)) × (r .out ≤ 18995) ⌝ }
+    requires { do ⌜ ((← ⟦text.len()⟧) ≤ 16384) × (out ≤ 10802) ⌝ }
+    ensures { λ r. ⌜ ((v : Name) (k : List ℕ) → Goes (now (text .entry)) (suc at) (Sets (now (text .entry)) v (now (vars .entry)) (now (vars .exit)) (now (props .entry)) (now (props .exit)) k k (now (code .entry)) (now (code .exit)) out (r .out) (r .kind) (r .place) (r .other) (r .second)) (mutateOf v (now (text .entry)) at) (r .next)) × (r .out ≤ 10802) ⌝ }
 {
     let a = forms::mark(text, at, b'(');
     let b = forms::mark(text, a, b'[');
@@ -153,8 +154,8 @@ fn dispose_of(
     code: &mut [u32; CODE_WORDS],
     out: usize,
 ) -> Form
-    requires { do ⌜ ((← ⟦text.len()⟧) ≤ 16384) × (out ≤ 18995) ⌝ }
-    ensures { λ r. ⌜ ((v : Name) (p k : List ℕ) → Goes (now (text .entry)) (suc at) (Sets (now (text .entry)) v (now (vars .entry)) (now (vars .exit)) p p k k (now (code .entry)) (now (code .exit)) out (r .out) (r .kind) (r .place) (r .other) (r .second)) (disposeOf v (now (text .entry)) at) (r .next)) × (r .out ≤ 18995) ⌝ }
+    requires { do ⌜ ((← ⟦text.len()⟧) ≤ 16384) × (out ≤ 10802) ⌝ }
+    ensures { λ r. ⌜ ((v : Name) (p k : List ℕ) → Goes (now (text .entry)) (suc at) (Sets (now (text .entry)) v (now (vars .entry)) (now (vars .exit)) p p k k (now (code .entry)) (now (code .exit)) out (r .out) (r .kind) (r .place) (r .other) (r .second)) (disposeOf v (now (text .entry)) at) (r .next)) × (r .out ≤ 10802) ⌝ }
 {
     let a = forms::mark(text, at, b'(');
     let e = exprs::expr(text, a, 8, vars, code, out);
@@ -177,18 +178,18 @@ fn named_form(
     code: &mut [u32; CODE_WORDS],
     out: usize,
 ) -> Form
-    requires { do ⌜ ((← ⟦text.len()⟧) ≤ 16384) × (out ≤ 18995) ⌝ }
-    ensures { λ r. ⌜ ((v : Name) (p : List ℕ) → Goes (now (text .entry)) (suc at) (Sets (now (text .entry)) v (now (vars .entry)) (now (vars .exit)) p p (now (calls .entry)) (now (calls .exit)) (now (code .entry)) (now (code .exit)) out (r .out) (r .kind) (r .place) (r .other) (r .second)) (named v (now (text .entry)) at) (r .next)) × (r .out ≤ 18995) ⌝ }
+    requires { do ⌜ ((← ⟦text.len()⟧) ≤ 16384) × (out ≤ 10802) ⌝ }
+    ensures { λ r. ⌜ ((v : Name) (p : List ℕ) → Goes (now (text .entry)) (suc at) (Sets (now (text .entry)) v (now (vars .entry)) (now (vars .exit)) p p (now (calls .entry)) (now (calls .exit)) (now (code .entry)) (now (code .exit)) out (r .out) (r .kind) (r .place) (r .other) (r .second)) (named v (now (text .entry)) at) (r .next)) × (r .out ≤ 10802) ⌝ }
 {
     let f = forms::name(text, at);
     if lexemes::past_mark(text, f.next, b'(') != 0 {
         return call_of(text, f.next, f.value, vars, calls, code, out);
     }
     let x = names::intern(text, f.value, vars, 16);
-    store::store_node(code, out, 3, x as u32);
+    store::store(code, out, VARIABLE + x as u32);
     Form {
         next: f.next,
-        out: store::after_node(out),
+        out: store::after(out),
         kind: 1,
         place: out as u32,
         other: 0,
@@ -206,8 +207,8 @@ fn value(
     code: &mut [u32; CODE_WORDS],
     out: usize,
 ) -> Form
-    requires { do ⌜ ((← ⟦text.len()⟧) ≤ 16384) × (out ≤ 18995) ⌝ }
-    ensures { λ r. ⌜ ((v : Name) → Goes (now (text .entry)) (suc at) (Sets (now (text .entry)) v (now (vars .entry)) (now (vars .exit)) (now (props .entry)) (now (props .exit)) (now (calls .entry)) (now (calls .exit)) (now (code .entry)) (now (code .exit)) out (r .out) (r .kind) (r .place) (r .other) (r .second)) (valueFrom v (lexeme (now (text .entry)) at .token) (now (text .entry)) at) (r .next)) × (r .out ≤ 18995) ⌝ }
+    requires { do ⌜ ((← ⟦text.len()⟧) ≤ 16384) × (out ≤ 10802) ⌝ }
+    ensures { λ r. ⌜ ((v : Name) → Goes (now (text .entry)) (suc at) (Sets (now (text .entry)) v (now (vars .entry)) (now (vars .exit)) (now (props .entry)) (now (props .exit)) (now (calls .entry)) (now (calls .exit)) (now (code .entry)) (now (code .exit)) out (r .out) (r .kind) (r .place) (r .other) (r .second)) (valueFrom v (lexeme (now (text .entry)) at .token) (now (text .entry)) at) (r .next)) × (r .out ≤ 10802) ⌝ }
 {
     let t = lexemes::token(text, at);
     let kind = t.kind;
@@ -248,8 +249,8 @@ fn setting(
     code: &mut [u32; CODE_WORDS],
     out: usize,
 ) -> Got
-    requires { do ⌜ ((← ⟦text.len()⟧) ≤ 16384) × (out ≤ 18995) ⌝ }
-    ensures { λ r. ⌜ Goes (now (text .entry)) (suc at) (Does (now (text .entry)) (now (vars .entry)) (now (vars .exit)) (now (props .entry)) (now (props .exit)) (now (calls .entry)) (now (calls .exit)) (now (code .entry)) (now (code .exit)) n out (r .out) 0 false) (settingOf (nameAt (now (text .entry)) target) (now (text .entry)) at) (r .next) × (r .out ≤ 18995) ⌝ }
+    requires { do ⌜ ((← ⟦text.len()⟧) ≤ 16384) × (out ≤ 10802) ⌝ }
+    ensures { λ r. ⌜ Goes (now (text .entry)) (suc at) (Does (now (text .entry)) (now (vars .entry)) (now (vars .exit)) (now (props .entry)) (now (props .exit)) (now (calls .entry)) (now (calls .exit)) (now (code .entry)) (now (code .exit)) n out (r .out) 0 false) (settingOf (nameAt (now (text .entry)) target) (now (text .entry)) at) (r .next) × (r .out ≤ 10802) ⌝ }
 {
     let a = forms::becomes(text, at);
     let x = names::intern(text, target, vars, 16);
@@ -270,8 +271,8 @@ fn jumping(
     code: &mut [u32; CODE_WORDS],
     out: usize,
 ) -> Step
-    requires { do ⌜ ((← ⟦text.len()⟧) ≤ 16384) × (out ≤ 18995) ⌝ }
-    ensures { λ r. ⌜ ((p k : List ℕ) → Goes (now (text .entry)) (suc at) (Does (now (text .entry)) (now (vars .entry)) (now (vars .exit)) p p k k (now (code .entry)) (now (code .exit)) n out (r .out) (r .jump) (r .ends)) (jumpOf (now (text .entry)) at) (r .next)) × (r .out ≤ 18995) ⌝ }
+    requires { do ⌜ ((← ⟦text.len()⟧) ≤ 16384) × (out ≤ 10802) ⌝ }
+    ensures { λ r. ⌜ ((p k : List ℕ) → Goes (now (text .entry)) (suc at) (Does (now (text .entry)) (now (vars .entry)) (now (vars .exit)) p p k k (now (code .entry)) (now (code .exit)) n out (r .out) (r .jump) (r .ends)) (jumpOf (now (text .entry)) at) (r .next)) × (r .out ≤ 10802) ⌝ }
 {
     let e = exprs::expr(text, at, 8, vars, code, out);
     let to = forms::number(text, e.next);
@@ -294,8 +295,8 @@ fn ending(
     code: &mut [u32; CODE_WORDS],
     out: usize,
 ) -> Step
-    requires { do ⌜ ((← ⟦text.len()⟧) ≤ 16384) × (out ≤ 18995) ⌝ }
-    ensures { λ r. ⌜ ((h : Expr Name → Cmd Name) (p k : List ℕ) → Ending kind h → Goes (now (text .entry)) (suc at) (Does (now (text .entry)) (now (vars .entry)) (now (vars .exit)) p p k k (now (code .entry)) (now (code .exit)) n out (r .out) (r .jump) (r .ends)) (endingOf h (now (text .entry)) at) (r .next)) × (r .out ≤ 18995) ⌝ }
+    requires { do ⌜ ((← ⟦text.len()⟧) ≤ 16384) × (out ≤ 10802) ⌝ }
+    ensures { λ r. ⌜ ((h : Expr Name → Cmd Name) (p k : List ℕ) → Ending kind h → Goes (now (text .entry)) (suc at) (Does (now (text .entry)) (now (vars .entry)) (now (vars .exit)) p p k k (now (code .entry)) (now (code .exit)) n out (r .out) (r .jump) (r .ends)) (endingOf h (now (text .entry)) at) (r .next)) × (r .out ≤ 10802) ⌝ }
 {
     let e = exprs::expr(text, at, 8, vars, code, out);
     store::store_command(code, n, kind, 0, out as u32, 0, 0);
@@ -318,8 +319,8 @@ fn bare_command(
     code: &mut [u32; CODE_WORDS],
     out: usize,
 ) -> Step
-    requires { do ⌜ ((← ⟦text.len()⟧) ≤ 16384) × (out ≤ 18995) ⌝ }
-    ensures { λ r. ⌜ Goes (now (text .entry)) (suc at) (Does (now (text .entry)) (now (vars .entry)) (now (vars .exit)) (now (props .entry)) (now (props .exit)) (now (calls .entry)) (now (calls .exit)) (now (code .entry)) (now (code .exit)) n out (r .out) (r .jump) (r .ends)) (bareCommand (now (text .entry)) at) (r .next) × (r .out ≤ 18995) ⌝ }
+    requires { do ⌜ ((← ⟦text.len()⟧) ≤ 16384) × (out ≤ 10802) ⌝ }
+    ensures { λ r. ⌜ Goes (now (text .entry)) (suc at) (Does (now (text .entry)) (now (vars .entry)) (now (vars .exit)) (now (props .entry)) (now (props .exit)) (now (calls .entry)) (now (calls .exit)) (now (code .entry)) (now (code .exit)) n out (r .out) (r .jump) (r .ends)) (bareCommand (now (text .entry)) at) (r .next) × (r .out ≤ 10802) ⌝ }
 {
     let t = lexemes::token(text, at);
     let kind = t.kind;
@@ -365,8 +366,8 @@ pub fn read_command(
     code: &mut [u32; CODE_WORDS],
     out: usize,
 ) -> Step
-    requires { do ⌜ ((← ⟦text.len()⟧) ≤ 16384) × (out ≤ 18995) ⌝ }
-    ensures { λ r. ⌜ Goes (now (text .entry)) (suc at) (Does (now (text .entry)) (now (vars .entry)) (now (vars .exit)) (now (props .entry)) (now (props .exit)) (now (calls .entry)) (now (calls .exit)) (now (code .entry)) (now (code .exit)) n out (r .out) (r .jump) (r .ends)) (command (now (text .entry)) at) (r .next) × (r .out ≤ 18995) ⌝ }
+    requires { do ⌜ ((← ⟦text.len()⟧) ≤ 16384) × (out ≤ 10802) ⌝ }
+    ensures { λ r. ⌜ Goes (now (text .entry)) (suc at) (Does (now (text .entry)) (now (vars .entry)) (now (vars .exit)) (now (props .entry)) (now (props .exit)) (now (calls .entry)) (now (calls .exit)) (now (code .entry)) (now (code .exit)) n out (r .out) (r .jump) (r .ends)) (command (now (text .entry)) at) (r .next) × (r .out ≤ 10802) ⌝ }
 {
     let c = bare_command(text, at, n, vars, props, calls, code, out);
     Step {

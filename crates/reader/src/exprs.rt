@@ -4,11 +4,16 @@ ghost use Prim.Native.Nat.{suc, _≤_};
 ghost use lib.ListN.{length};
 ghost use Rattle.gil.specs.Reading.{exprDeep, bracketed};
 ghost use Rattle.reader.specs.Goes.{Goes};
-ghost use Rattle.reader.specs.Stores.{putNode, upFrom};
+ghost use Rattle.reader.specs.Stores.{put, putNumber, afterNumber, upFrom};
 ghost use Rattle.reader.specs.Effects.{Wrote};
 use crate::forms;
 use crate::store;
 use code::CODE_WORDS;
+use code::KIND;
+use code::NEXT_WORD;
+use code::NOT;
+use code::TRUTH;
+use code::VARIABLE;
 use tokens::lexemes;
 use tokens::words;
 
@@ -18,16 +23,28 @@ pub struct Got {
     pub out: usize,
 }
 
-// a leaf's two words
-fn leaf(next: usize, code: &mut [u32; CODE_WORDS], out: usize, kind: u32, v: u32) -> Got
-    requires { ⌜ out ≤ 18995 ⌝ }
-    ensures { λ r. ⌜ (r .next ≡ next) × (r .out ≡ upFrom out) × (r .out ≤ 18995) × (now (code .exit) ≡ putNode (now (code .entry)) out kind v) ⌝ }
+// a leaf of one word
+fn leaf(next: usize, code: &mut [u32; CODE_WORDS], out: usize, node: u32) -> Got
+    requires { ⌜ out ≤ 10802 ⌝ }
+    ensures { λ r. ⌜ (r .next ≡ next) × (r .out ≡ upFrom out) × (r .out ≤ 10802) × (now (code .exit) ≡ put (now (code .entry)) out node) ⌝ }
 {
-    store::store_node(code, out, kind, v);
+    store::store(code, out, node);
     Got {
         next: next,
-        out: store::after_node(out),
+        out: store::after(out),
     }
+}
+
+// a number, in one word or in two
+fn number(next: usize, code: &mut [u32; CODE_WORDS], out: usize, n: u32) -> Got
+    requires { ⌜ out ≤ 10802 ⌝ }
+    ensures { λ r. ⌜ (r .next ≡ next) × (r .out ≡ afterNumber out n) × (r .out ≤ 10802) × (now (code .exit) ≡ putNumber (now (code .entry)) out n) ⌝ }
+{
+    if n < KIND {
+        return leaf(next, code, out, n);
+    }
+    store::store(code, out, NEXT_WORD);
+    leaf(next, code, store::after(out), n)
 }
 
 // an expression at most `depth` deep
@@ -39,8 +56,8 @@ pub fn expr(
     code: &mut [u32; CODE_WORDS],
     out: usize,
 ) -> Got
-    requires { do ⌜ ((← ⟦text.len()⟧) ≤ 16384) × (out ≤ 18995) ⌝ }
-    ensures { λ r. ⌜ Goes (now (text .entry)) (suc at) (Wrote (now (text .entry)) (now (vars .entry)) (now (vars .exit)) (now (code .entry)) (now (code .exit)) out (r .out)) (exprDeep depth (now (text .entry)) at) (r .next) × (r .out ≤ 18995) ⌝ }
+    requires { do ⌜ ((← ⟦text.len()⟧) ≤ 16384) × (out ≤ 10802) ⌝ }
+    ensures { λ r. ⌜ Goes (now (text .entry)) (suc at) (Wrote (now (text .entry)) (now (vars .entry)) (now (vars .exit)) (now (code .entry)) (now (code .exit)) out (r .out)) (exprDeep depth (now (text .entry)) at) (r .next) × (r .out ≤ 10802) ⌝ }
 {
     if depth == 0 {
         return Got {
@@ -53,14 +70,14 @@ pub fn expr(
     match kind {
         words::NAME => {
             let x = names::intern(text, t.value, vars, 16);
-            leaf(t.next, code, out, 3, x as u32)
+            leaf(t.next, code, out, VARIABLE + x as u32)
         }
-        words::NUMBER => leaf(t.next, code, out, 1, t.value),
-        words::TRUE => leaf(t.next, code, out, 2, 1),
-        words::FALSE => leaf(t.next, code, out, 2, 0),
+        words::NUMBER => number(t.next, code, out, t.value),
+        words::TRUE => leaf(t.next, code, out, TRUTH + 1),
+        words::FALSE => leaf(t.next, code, out, TRUTH),
         words::NOT => {
-            store::store_node(code, out, 4, 0);
-            expr(text, t.next, depth - 1, vars, code, store::after_node(out))
+            store::store(code, out, NOT);
+            expr(text, t.next, depth - 1, vars, code, store::after(out))
         }
         40 => operation(text, t.next, depth - 1, vars, code, out),
         _ => Got {
@@ -79,12 +96,12 @@ fn operation(
     code: &mut [u32; CODE_WORDS],
     out: usize,
 ) -> Got
-    requires { do ⌜ ((← ⟦text.len()⟧) ≤ 16384) × (out ≤ 18995) ⌝ }
-    ensures { λ r. ⌜ Goes (now (text .entry)) (suc at) (Wrote (now (text .entry)) (now (vars .entry)) (now (vars .exit)) (now (code .entry)) (now (code .exit)) out (r .out)) (bracketed (exprDeep depth) (now (text .entry)) at) (r .next) × (r .out ≤ 18995) ⌝ }
+    requires { do ⌜ ((← ⟦text.len()⟧) ≤ 16384) × (out ≤ 10802) ⌝ }
+    ensures { λ r. ⌜ Goes (now (text .entry)) (suc at) (Wrote (now (text .entry)) (now (vars .entry)) (now (vars .exit)) (now (code .entry)) (now (code .exit)) out (r .out)) (bracketed (exprDeep depth) (now (text .entry)) at) (r .next) × (r .out ≤ 10802) ⌝ }
 {
-    let a = expr(text, at, depth, vars, code, store::after_node(out));
+    let a = expr(text, at, depth, vars, code, store::after(out));
     let o = forms::operator(text, a.next);
-    store::store_node(code, out, o.value, store::between(out, a.out));
+    store::store(code, out, KIND * o.value + store::between(out, a.out));
     let b = expr(text, o.next, depth, vars, code, a.out);
     Got {
         next: forms::mark(text, b.next, b')'),

@@ -104,7 +104,7 @@ pub fn number(text: &[u8], at: usize) -> Valued
 // an operator, by its word
 pub fn operator(text: &[u8], at: usize) -> Valued
     requires { do ⌜ (← ⟦text.len()⟧) ≤ 16384 ⌝ }
-    ensures { λ r. ⌜ Goes (now (text .entry)) (suc at) (λ o. (r .value) ≡ opWord o) (theOp (now (text .entry)) at) (r .next) ⌝ }
+    ensures { λ r. ⌜ Goes (now (text .entry)) (suc at) (λ o. (r .value) ≡ opWord o) (theOp (now (text .entry)) at) (r .next) × (r .value ≤ 10) ⌝ }
 {
     let t = lexemes::token(text, at);
     let kind = t.kind;

@@ -1,6 +1,6 @@
--- What the readers of commands, procedures and texts give: what was read is small, and its expressions take fewer words than it has bytes.
+-- What the readers of commands, procedures and texts give: what was read is small, and twice the words of its expressions are fewer than its bytes.
 -- Assumes nothing.
-use Prim.Native.Nat.{ℕ, zero, suc, _+_, _≤_, _<_}
+use Prim.Native.Nat.{ℕ, zero, suc, _+_, _*_, _≤_, _<_}
 use native.Mathlib.Omega.{arith}
 use mathlib.Core.Path.{_≡_, refl}
 use mathlib.Core.Bool.{Bool, true, false}
@@ -15,10 +15,10 @@ use Rattle.code.specs.Accepted.Tokens.{WordFits, aName, aNumber, aKey, a
 use Rattle.code.specs.Accepted.Sizes.{exprSize, cmdSize, procSize, ExprSmall, smallVariable, CmdSmall, smallAssign, smallJump, smallCall, smallLookup, smallMutate, smallDispose, smallUSym, smallISym, smallReturn, smallFail, smallVanish, ProcSmall}
 use Rattle.code.specs.Accepted.Readers.{Given, Reads, nothing-reads, done-reads, reads-to, reads-then, reads-on, token-reads, ahead-reads, theMark-reads, theBecomes-reads, theName-reads, theNumber-reads, theProperty-reads, expr-reads}
 
--- a command past its first token: its words are at most its bytes and one
+-- a command past its first token: twice its words are at most its bytes and one
 pub record CmdRead (at : ℕ) (c : Cmd Name) (next : ℕ) : Type 0 where
   pub small : CmdSmall c
-  pub takes : cmdSize c + at ≤ suc next
+  pub takes : 2 * cmdSize c + at ≤ suc next
 
 -- the forms that follow `v :=`, read at `at` in a command that began at `from` or after
 module _ (s : List ℕ) (v : Name) (from at : ℕ) (b : from ≤ at) (h : at ≤ length s) where
@@ -102,7 +102,7 @@ module _ (s : List ℕ) (v : Name) (from at : ℕ) (b : from ≤ at) (h : at ≤
   valueWord-reads : {size : ℕ} {w : Word} → WordFits size w → Reads s (CmdRead from) (valueWord v w) at
   unfolding valueWord cmdSize
   valueWord-reads (aName c) = named-reads
-  valueWord-reads (aNumber c k) = assignment-reads s v from at b h
+  valueWord-reads (aNumber c k w) = assignment-reads s v from at b h
   valueWord-reads (aKey {k} c) = valueKey-reads k
   valueWord-reads (aUSite {j} c i) =
       reads-on (token-reads s at h) λ _ n k p. done-reads (uSym v j) k (record { small = smallUSym i; takes = omega arith })
@@ -164,22 +164,22 @@ module _ (s : List ℕ) (at : ℕ) (h : at ≤ length s) where
       {size : ℕ} {w : Word} → WordFits size w → Reads s (λ c next. CmdRead at c next × (1 ≤ size)) (commandWord w) at
   unfolding commandWord
   commandWord-reads (aName {w} c) = reads-to (λ _ _ r. (r, omega arith)) (settingOf-reads w)
-  commandWord-reads (aNumber c k) = nothing-reads
+  commandWord-reads (aNumber c k w) = nothing-reads
   commandWord-reads (aKey {k} c) = reads-to (λ _ _ r. (r, omega arith)) (commandKey-reads k)
   commandWord-reads (aUSite c k) = nothing-reads
   commandWord-reads (anISite c k) = nothing-reads
   commandWord-reads aFault = nothing-reads
 
--- an item of a list: `P` holds of it, and its size is less than its bytes
+-- an item of a list: `P` holds of it, and twice its size is less than its bytes
 pub record ItemRead {A : Type 0} (P : A → Type 0) (size : A → ℕ) (at : ℕ) (a : A) (next : ℕ) : Type 0 where
   pub small : P a
-  pub takes : size a + at < next
+  pub takes : 2 * size a + at < next
 
 -- one item or more
 pub record ItemsRead {A : Type 0} (P : A → Type 0) (size : A → ℕ) (at : ℕ) (l : List A) (next : ℕ) : Type 0 where
   pub small : Each P l
   pub some : 1 ≤ length l
-  pub takes : total size l + at < next
+  pub takes : 2 * total size l + at < next
 
 module _ {A : Type 0} (s : List ℕ) (P : A → Type 0) (size : A → ℕ) where
   orMore-reads :

@@ -1,6 +1,6 @@
 -- What the readers of tokens and expressions give from a place in the text, if they are not faulty: the place after what was read is still
--- in the text, past the bytes that were read; an expression is as deep as allowed, and its words are few. Assumes nothing.
-use Prim.Native.Nat.{ℕ, zero, suc, _+_, _≤_, _<_}
+-- in the text, past the bytes that were read; an expression is as deep as allowed, and its words are few: two bytes or more a word. Assumes nothing.
+use Prim.Native.Nat.{ℕ, zero, suc, _+_, _*_, _≤_, _<_}
 use native.Mathlib.Omega.{arith}
 use mathlib.Core.Path.{_≡_, refl}
 use mathlib.Core.Bool.{Bool, true, false}
@@ -102,7 +102,7 @@ module _ {s : List ℕ} (at n : ℕ) (h : n ≤ length s) where
   nameOf-reads : {size : ℕ} {w : Word} → WordFits size w → at + size ≤ n → Reads s (λ v next. at < next) (nameOf w) n
   unfolding nameOf
   nameOf-reads (aName {w} b) k = done-reads w h (omega arith)
-  nameOf-reads (aNumber b c) k = nothing-reads
+  nameOf-reads (aNumber b c w) k = nothing-reads
   nameOf-reads (aKey b) k = nothing-reads
   nameOf-reads (aUSite b c) k = nothing-reads
   nameOf-reads (anISite b c) k = nothing-reads
@@ -112,7 +112,7 @@ module _ {s : List ℕ} (at n : ℕ) (h : n ≤ length s) where
       {size : ℕ} {w : Word} → WordFits size w → at + size ≤ n → Reads s (λ m next. (m < 4294967296) × (at < next)) (numberOf w) n
   unfolding numberOf
   numberOf-reads (aName b) k = nothing-reads
-  numberOf-reads (aNumber {n = m} b c) k = done-reads m h (c, omega arith)
+  numberOf-reads (aNumber {n = m} b c w) k = done-reads m h (c, omega arith)
   numberOf-reads (aKey b) k = nothing-reads
   numberOf-reads (aUSite b c) k = nothing-reads
   numberOf-reads (anISite b c) k = nothing-reads
@@ -155,7 +155,7 @@ module _ {s : List ℕ} (at n : ℕ) (h : n ≤ length s) where
   opWord-reads : {size : ℕ} {w : Word} → WordFits size w → at + size ≤ n → Reads s (λ o next. at < next) (opWord w) n
   unfolding opWord
   opWord-reads (aName b) k = nothing-reads
-  opWord-reads (aNumber b c) k = nothing-reads
+  opWord-reads (aNumber b c w) k = nothing-reads
   opWord-reads (aKey {k = w} b) k = opKey-reads (omega arith) w
   opWord-reads (aUSite b c) k = nothing-reads
   opWord-reads (anISite b c) k = nothing-reads
@@ -194,10 +194,10 @@ module _ (s : List ℕ) (at : ℕ) (h : at ≤ length s) where
   unfolding theOp
   theOp-reads = reads-then (token-reads s at h) λ t n k p. opOf-reads at n k t p
 
--- an expression: at most `d` deep, its words at most its bytes and one
+-- an expression: at most `d` deep, twice its words at most its bytes and one
 pub record ExprRead (d at : ℕ) (e : Expr Name) (next : ℕ) : Type 0 where
   pub small : ExprSmall d e
-  pub takes : exprSize e + at ≤ suc next
+  pub takes : 2 * exprSize e + at ≤ suc next
 
 -- an expression past its first token, which began at `at`; `p` reads an operand
 module _
@@ -236,7 +236,7 @@ module _
     exprWord-reads : {size : ℕ} {w : Word} → WordFits size w → at + size ≤ n → Reads s (ExprRead (suc d) at) (exprWord p w) n
     unfolding exprWord exprSize
     exprWord-reads (aName {w} b) k = done-reads (var w) h (record { small = smallVariable; takes = omega arith })
-    exprWord-reads (aNumber {n = m} b c) k = done-reads (num m) h (record { small = smallNumber c; takes = omega arith })
+    exprWord-reads (aNumber {n = m} b c w) k = done-reads (num m) h (record { small = smallNumber c; takes = omega arith })
     exprWord-reads (aKey {k = w} b) k = exprKey-reads (omega arith) w
     exprWord-reads (aUSite b c) k = nothing-reads
     exprWord-reads (anISite b c) k = nothing-reads

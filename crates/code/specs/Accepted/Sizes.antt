@@ -1,20 +1,21 @@
--- How large a program tree is: expressions at most so deep, with numbers of 32 bits, and two words a node, as `Code` writes them.
+-- How large a program tree is: expressions at most so deep, with numbers of 32 bits, and as many words as `Code` writes for them.
 -- Assumes nothing.
 use Prim.Native.Nat.{ℕ, suc, _+_, _≤_, _<_}
 use mathlib.Core.Bool.{Bool}
 use lib.ListN.{length}
 use Rattle.gil.specs.Tree.{Op, Expr, num, bool, var, neg, bin, Cmd, assign, ifgoto, call, lookup, mutate, dispose, uSym, iSym, return, fail, vanish, Proc, Name}
+use Rattle.code.specs.Code.{numberWords}
 use Rattle.code.specs.WellFormed.{Each}
 use Rattle.code.specs.Accepted.Lists.{total}
 
 -- the words of an expression, and of a command's, a procedure's and a text's expressions
 module _ {N : Type 0} where
   unfoldable pub exprSize : Expr N → ℕ
-  exprSize (num n) = 2
-  exprSize (bool b) = 2
-  exprSize (var x) = 2
-  exprSize (neg e) = 2 + exprSize e
-  exprSize (bin o a b) = 2 + (exprSize a + exprSize b)
+  exprSize (num n) = length (numberWords n)
+  exprSize (bool b) = 1
+  exprSize (var x) = 1
+  exprSize (neg e) = 1 + exprSize e
+  exprSize (bin o a b) = 1 + (exprSize a + exprSize b)
 
   unfoldable pub cmdSize : Cmd N → ℕ
   cmdSize (assign x e) = exprSize e

@@ -1,18 +1,19 @@
--- How many bytes a token takes, and what its run can be: a number below 2³², a site below 256, a reserved word of two characters or more.
+-- How many bytes a token takes, and what its run can be: a number below 2³² and of few words, a site below 256, a reserved word of two characters or more.
 -- Assumes nothing.
-use Prim.Native.Nat.{ℕ, suc, _+_, _≤_, _<_}
+use Prim.Native.Nat.{ℕ, suc, _+_, _-_, _*_, _≤_, _<_}
 use native.Mathlib.Omega.{arith}
 use mathlib.Core.Path.{_≡_, refl, ap}
-use mathlib.Core.Bool.{Bool, false, _&&_}
+use mathlib.Core.Bool.{Bool, true, false, _&&_}
 use mathlib.Core.List.{List, [], _∷_}
 use mathlib.Core.Option.{Option}
 use lib.ListN.{length, take, drop, length-take, length-drop}
 use lib.Dec.{leb, ltb, eqb}
-use borrow.Author.Tests.{ltb-false, leb-true}
-use Rattle.gil.specs.Text.{Token, word, property, becomes, mark, ended, Lexeme, span, part, within, inRun, white, quoted, coloned, marked, tokenFrom, skipWhite, lexeme, Key, reservedWords, uSymPrefix, iSymPrefix, bytes, Word, name, number, key, uSite, iSite, fault, same, find, allDigits, plainZero, decimalFrom, numeral, numbered, symbol, identified, letter, identifier, wordOf}
+use borrow.Author.Tests.{lt-ltb, ltb-false, leb-true}
+use Rattle.gil.specs.Text.{Token, word, property, becomes, mark, ended, Lexeme, span, part, within, inRun, white, quoted, coloned, marked, tokenFrom, skipWhite, lexeme, Key, reservedWords, uSymPrefix, iSymPrefix, bytes, Word, name, number, key, uSite, iSite, fault, same, find, allDigits, plainZero, decimalFrom, numeral, numbered, symbol, identified, digit, letter, identifier, wordOf}
 use Rattle.gil.specs.Tree.{Name}
 use Rattle.gil.specs.Reading.{asWord}
 use Rattle.gil.specs.Names.{any}
+use Rattle.code.specs.Code.{numberWords}
 use Rattle.code.specs.WellFormed.{Each, none, more}
 use Rattle.code.specs.Accepted.Lists.{and-true, choose, none-passes}
 use Rattle.code.specs.Accepted.Places.{same-equal}
@@ -90,33 +91,55 @@ lexeme-ends s at h =
 -- what a run of so many bytes can be
 pub data WordFits (size : ℕ) : Word → Type 0 where
   aName : {w : Name} → 1 ≤ size → WordFits size (name w)
-  aNumber : {n : ℕ} → 1 ≤ size → n < 4294967296 → WordFits size (number n)
+  aNumber : {n : ℕ} → 1 ≤ size → n < 4294967296 → 2 * length (numberWords n) ≤ suc size → WordFits size (number n)
   aKey : {k : Key} → 2 ≤ size → WordFits size (key k)
   aUSite : {j : ℕ} → 1 ≤ size → j < 256 → WordFits size (uSite j)
   anISite : {j : ℕ} → 1 ≤ size → j < 256 → WordFits size (iSite j)
   aFault : WordFits size fault
 
+-- a digit is at most 9, so a number of one or two digits has one word
+digit-few : (d : ℕ) → digit d ≡ true → d ≤ 57
+unfolding digit
+digit-few d e = leb-true d 57 (and-true (leb 48 d) (leb d 57) e .1)
+
+number-words : (n : ℕ) → length (numberWords n) ≤ 2
+unfolding numberWords
+number-words n = choose (λ (ws : List ℕ). length ws ≤ 2) (ltb n 268435456) (λ _. omega arith) (λ _. omega arith)
+
+one-word : (n : ℕ) → n < 268435456 → length (numberWords n) ≡ 1
+unfolding numberWords
+one-word n h = rw (lt-ltb n 268435456 h, numberWords)
+
+few-words : (b : ℕ) (ds : List ℕ) → allDigits (b ∷ ds) ≡ true → 2 * length (numberWords (decimalFrom 0 (b ∷ ds))) ≤ suc (suc (length ds))
+unfolding allDigits decimalFrom
+few-words b [] e = let h = digit-few b (and-true (digit b) true e .0) in omega (arith, one-word (0 * 10 + (b - 48)) (omega arith))
+few-words b (c ∷ []) e =
+    let (x, y) = and-true (digit b) (digit c && true) e in
+    let h = digit-few b x in
+    let k = digit-few c (and-true (digit c) true y .0) in
+    omega (arith, one-word ((0 * 10 + (b - 48)) * 10 + (c - 48)) (omega arith))
+few-words b (c ∷ d ∷ ds) e = omega (arith, number-words (decimalFrom 0 (b ∷ c ∷ d ∷ ds)))
+
 -- a numeral is within its limit
 numbered-fits :
-    {size : ℕ} (limit : ℕ) (f : ℕ → Word)
-    → ((n : ℕ) → n ≤ limit → WordFits size (f n))
-    → (ds : List ℕ)
+    {size : ℕ} (limit : ℕ) (f : ℕ → Word) (ds : List ℕ)
+    → (allDigits ds ≡ true → decimalFrom 0 ds ≤ limit → WordFits size (f (decimalFrom 0 ds)))
     → WordFits size (numbered (numeral limit ds) f)
 unfolding numbered numeral
-numbered-fits {size} limit f h ds =
+numbered-fits {size} limit f ds h =
     let n : ℕ = decimalFrom 0 ds in
     choose (λ (o : Option ℕ). WordFits size (numbered o f)) (allDigits ds && plainZero ds && leb n limit)
-    (λ t. h n (leb-true n limit (and-true (allDigits ds && plainZero ds) (leb n limit) t .1)))
+    (λ t. let (x, y) = and-true (allDigits ds && plainZero ds) (leb n limit) t in h (and-true (allDigits ds) (plainZero ds) x .0) (leb-true n limit y))
     (λ _. aFault)
 
 symbol-fits : {size : ℕ} → 1 ≤ size → (w : List ℕ) → WordFits size (symbol w)
 unfolding symbol
 symbol-fits {size} h w =
     choose (WordFits size) (same (take 5 w) uSymPrefix)
-    (λ _. numbered-fits 255 uSite (λ n k. aUSite h (omega arith)) (drop 5 w))
+    (λ _. numbered-fits 255 uSite (drop 5 w) (λ _ k. aUSite h (omega arith)))
     λ _.
     choose (WordFits size) (same (take 5 w) iSymPrefix)
-    (λ _. numbered-fits 255 iSite (λ n k. anISite h (omega arith)) (drop 5 w))
+    (λ _. numbered-fits 255 iSite (drop 5 w) (λ _ k. anISite h (omega arith)))
     λ _. aName h
 
 -- a run of one character is never a reserved word
@@ -149,7 +172,7 @@ wordOf-fits [] = aFault
 wordOf-fits (b ∷ w) =
     choose (WordFits (suc (length w))) (letter b)
     (λ _. identifier-fits (b ∷ w) (omega arith))
-    (λ _. numbered-fits 4294967295 number (λ n k. aNumber (omega arith) (omega arith)) (b ∷ w))
+    (λ _. numbered-fits 4294967295 number (b ∷ w) (λ digits k. aNumber (omega arith) (omega arith) (few-words b w digits)))
 
 pub asWord-fits : (t : Token) → WordFits (tokenBytes t) (asWord t)
 unfolding asWord tokenBytes

@@ -66,17 +66,14 @@ operand-returns-2 t c = simp (← c .before .leaf .ensures, ne-eqb _ _ (c .if1 .
 operator-returns : (t : ℕ) → operator-lts.Need-returns (of-operator t) (operator-at t) operator.Post
 operator-returns t c = past-depth _ _ _ _ _ _ _ (c .if1 .taken)
 
-operator-sub-if2 : (t : ℕ) → operator-lts.Need-sub-if2 (of-operator t) (operator-at t) operator.Post
-operator-sub-if2 t c = search needs
-
 operator-returns-2 : (t : ℕ) → operator-lts.Need-returns-2 (of-operator t) (operator-at t) operator.Post
 operator-returns-2 t c = past-end _ _ _ _ _ (c .before .if1 .left) (c .if2 .taken)
 
-operator-mul-kind : (t : ℕ) → operator-lts.Need-mul-kind (of-operator t) (operator-at t) operator.Post
-operator-mul-kind t c = search needs
+operator-mul-node : (t : ℕ) → operator-lts.Need-mul-node (of-operator t) (operator-at t) operator.Post
+operator-mul-node t c = search needs
 
-operator-element-copy-out-kind : (t : ℕ) → operator-lts.Need-element-copy-out-kind (of-operator t) (operator-at t) operator.Post
-operator-element-copy-out-kind t c = search needs
+operator-element-copy-out-node : (t : ℕ) → operator-lts.Need-element-copy-out-node (of-operator t) (operator-at t) operator.Post
+operator-element-copy-out-node t c = search needs
 
 operator-add-operand : (t : ℕ) → operator-lts.Need-add-operand (of-operator t) (operator-at t) operator.Post
 operator-add-operand t c = search needs
@@ -105,15 +102,6 @@ operator-returns-4 t c = negates _ _ _ _ _ (c .before .before .before .before .b
 operator-add-second : (t : ℕ) → operator-lts.Need-add-second (of-operator t) (operator-at t) operator.Post
 operator-add-second t c = search needs
 
-operator-add-wide : (t : ℕ) → operator-lts.Need-add-wide (of-operator t) (operator-at t) operator.Post
-operator-add-wide t c = search needs
-
-operator-mul-wide : (t : ℕ) → operator-lts.Need-mul-wide (of-operator t) (operator-at t) operator.Post
-operator-mul-wide t c = search needs
-
-operator-element-copy-out-wide : (t : ℕ) → operator-lts.Need-element-copy-out-wide (of-operator t) (operator-at t) operator.Post
-operator-element-copy-out-wide t c = search needs
-
 operator-wide-requires : (t : ℕ) → operator-lts.Need-wide-requires (of-operator t) (operator-at t) operator.Post
 operator-wide-requires t c κs = search needs
 
@@ -124,13 +112,13 @@ operator-sub-operand-2 : (t : ℕ) → operator-lts.Need-sub-operand-2 (of-opera
 operator-sub-operand-2 t c = search needs
 
 operator-operand-requires-2 : (t : ℕ) → operator-lts.Need-operand-requires-2 (of-operator t) (operator-at t) operator.Post
-operator-operand-requires-2 t c κs = (omega (arith, c .before .before .before .before .before .before .before .before .before .before .before .before .before .before .before .pre .0, c .before .before .before .before .before .before .before .before .before .before .before .before .before .if1 .left), tt)
+operator-operand-requires-2 t c κs = (omega (arith, c .before .before .before .before .before .before .before .before .before .before .before .before .before .before .pre .0, c .before .before .before .before .before .before .before .before .before .before .before .before .if1 .left), tt)
 
 operator-same-length-3 : (t : ℕ) → operator-lts.Need-same-length-3 (of-operator t) (operator-at t) operator.Post
 operator-same-length-3 t c = search needs
 
 operator-returns-5 : (t : ℕ) → operator-lts.Need-returns-5 (of-operator t) (operator-at t) operator.Post
-operator-returns-5 t c = second-errs _ _ _ _ _ (c .before .before .before .before .before .before .before .before .before .before .before .before .before .before .before .before .before .if1 .left) (c .before .before .before .before .before .before .before .before .before .before .before .before .before .before .before .before .if2 .left) (c .before .before .before .before .before .before .before .before .before .before .before .before .operand .ensures) (c .before .before .before .before .before .before .before .before .before .if3 .left) (c .before .before .before .before .before .before .before .before .if4 .left) (rw (c .before .before .before .before .before .before .wide .ensures .0) at (c .before .before .before .operand2 .ensures)) (c .if5 .taken)
+operator-returns-5 t c = second-errs _ _ _ _ _ (c .before .before .before .before .before .before .before .before .before .before .before .before .before .before .before .before .if1 .left) (c .before .before .before .before .before .before .before .before .before .before .before .before .before .before .before .if2 .left) (c .before .before .before .before .before .before .before .before .before .before .before .operand .ensures) (c .before .before .before .before .before .before .before .before .if3 .left) (c .before .before .before .before .before .before .before .if4 .left) (rw (c .before .before .before .before .before .before .wide .ensures .0) at (c .before .before .before .operand2 .ensures)) (c .if5 .taken)
 
 operator-operate-requires : (t : ℕ) → operator-lts.Need-operate-requires (of-operator t) (operator-at t) operator.Post
 operator-operate-requires t c κs = search needs
@@ -139,7 +127,7 @@ operator-same-length-4 : (t : ℕ) → operator-lts.Need-same-length-4 (of-opera
 operator-same-length-4 t c = search needs
 
 operator-returns-6 : (t : ℕ) → operator-lts.Need-returns-6 (of-operator t) (operator-at t) operator.Post
-operator-returns-6 t c = operates _ _ _ _ _ (c .before .before .before .before .before .before .before .before .before .before .before .before .before .before .before .before .before .before .before .before .before .before .if1 .left) (c .before .before .before .before .before .before .before .before .before .before .before .before .before .before .before .before .before .before .before .before .before .if2 .left) (c .before .before .before .before .before .before .before .before .before .before .before .before .before .before .before .before .before .operand .ensures) (c .before .before .before .before .before .before .before .before .before .before .before .before .before .before .if3 .left) (c .before .before .before .before .before .before .before .before .before .before .before .before .before .if4 .left) (rw (c .before .before .before .before .before .before .before .before .before .before .before .wide .ensures .0) at (c .before .before .before .before .before .before .before .before .operand2 .ensures)) (c .before .before .before .before .before .if5 .left) (c .before .before .operate .ensures)
+operator-returns-6 t c = operates _ _ _ _ _ (c .before .before .before .before .before .before .before .before .before .before .before .before .before .before .before .before .before .before .before .before .before .if1 .left) (c .before .before .before .before .before .before .before .before .before .before .before .before .before .before .before .before .before .before .before .before .if2 .left) (c .before .before .before .before .before .before .before .before .before .before .before .before .before .before .before .before .operand .ensures) (c .before .before .before .before .before .before .before .before .before .before .before .before .before .if3 .left) (c .before .before .before .before .before .before .before .before .before .before .before .before .if4 .left) (rw (c .before .before .before .before .before .before .before .before .before .before .before .wide .ensures .0) at (c .before .before .before .before .before .before .before .before .operand2 .ensures)) (c .before .before .before .before .before .if5 .left) (c .before .before .operate .ensures)
 
 pub +operand+operator-spec : {M : Type 1} → statement M
 +operand+operator-spec = close μ-operand μ-operator (λ t. operand-lts.spec (of-operand t)
@@ -150,14 +138,22 @@ pub +operand+operator-spec : {M : Type 1} → statement M
     (operand-same-length t)
     (operand-returns t)
     (operand-returns-2 t))
-    λ t. operator-lts.spec (of-operator t)
+    λ t. operator-lts.spec (
+      operand-below t,
+      operand.Post,
+      negate-reads.Asked,
+      negate-reads.Learnt,
+      wide-reads.Asked,
+      wide-reads.Learnt,
+      operate-reads.Asked,
+      operate-reads.Learnt,
+    )
     (operator-at t)
     operator.Post
     (operator-returns t)
-    (operator-sub-if2 t)
     (operator-returns-2 t)
-    (operator-mul-kind t)
-    (operator-element-copy-out-kind t)
+    (operator-mul-node t)
+    (operator-element-copy-out-node t)
     (operator-add-operand t)
     (operator-sub-operand t)
     (operator-operand-requires t)
@@ -167,9 +163,6 @@ pub +operand+operator-spec : {M : Type 1} → statement M
     (operator-same-length-2 t)
     (operator-returns-4 t)
     (operator-add-second t)
-    (operator-add-wide t)
-    (operator-mul-wide t)
-    (operator-element-copy-out-wide t)
     (operator-wide-requires t)
     (operator-add-second-2 t)
     (operator-sub-operand-2 t)

@@ -13,87 +13,71 @@ use Rattle.terms.proofs.needed.Reads as needed-reads
 use Rattle.values.proofs.word.Reads as word-reads
 use Rattle.values.proofs.work.Reads as work-reads
 
--- src/lib.rt:117:8
-sub-if1 : tie.Need-sub-if1
-sub-if1 c = search needs
-
--- src/lib.rt:118:9
+-- src/lib.rt:139:9
 returns : tie.Need-returns
 returns c = notSimple
 
--- src/lib.rt:120:16
-mul-kind : tie.Need-mul-kind
-mul-kind c = search needs
+-- src/lib.rt:141:16
+mul-node : tie.Need-mul-node
+mul-node c = search needs
 
--- src/lib.rt:120:16
-element-copy-out-kind : tie.Need-element-copy-out-kind
-element-copy-out-kind c = search needs
+-- src/lib.rt:141:16
+element-copy-out-node : tie.Need-element-copy-out-node
+element-copy-out-node c = search needs
 
--- src/lib.rt:121:24
+-- src/lib.rt:143:24
 add-leaf : tie.Need-add-leaf
 add-leaf c = search needs
 
--- src/lib.rt:121:9
+-- src/lib.rt:143:9
 leaf-requires : tie.Need-leaf-requires
 leaf-requires c κs = search needs
 
--- src/lib.rt:123:9
+-- src/lib.rt:145:9
 returns-2 : tie.Need-returns-2
 returns-2 c = notSimple
 
--- src/lib.rt:126:9
+-- src/lib.rt:148:9
 returns-3 : tie.Need-returns-3
 returns-3 c = notSimple
 
--- src/lib.rt:128:18
+-- src/lib.rt:150:18
 add-second : tie.Need-add-second
 add-second c = search needs
 
--- src/lib.rt:128:37
-add-wide : tie.Need-add-wide
-add-wide c = search needs
-
--- src/lib.rt:128:32
-mul-wide : tie.Need-mul-wide
-mul-wide c = search needs
-
--- src/lib.rt:128:32
-element-copy-out-wide : tie.Need-element-copy-out-wide
-element-copy-out-wide c = search needs
-
--- src/lib.rt:128:27
+-- src/lib.rt:150:27
 wide-requires : tie.Need-wide-requires
 wide-requires c κs = search needs
 
--- src/lib.rt:128:18
+-- src/lib.rt:150:18
 add-second-2 : tie.Need-add-second-2
 add-second-2 c = search needs
 
--- src/lib.rt:129:9
+-- src/lib.rt:151:9
 leaf-requires-2 : tie.Need-leaf-requires-2
 leaf-requires-2 c κs = search needs
 
--- src/lib.rt:130:8
+-- src/lib.rt:152:8
 needed-requires : tie.Need-needed-requires
 needed-requires c κs = search needs
 
--- src/lib.rt:131:35
+-- src/lib.rt:153:35
 word-requires : tie.Need-word-requires
 word-requires c κs = search needs
 
--- src/lib.rt:131:52
+-- src/lib.rt:153:52
 word-requires-2 : tie.Need-word-requires-2
 word-requires-2 c κs = search needs
 
--- src/lib.rt:131:9
+-- src/lib.rt:153:9
 work-requires : tie.Need-work-requires
 work-requires c κs = search needs
 
--- src/lib.rt:131:9
+-- src/lib.rt:153:9
 returns-4 : tie.Need-returns-4
-returns-4 c = simply-worked _ _ _ (c .before .before .before .before .before .before .before .before .before .before .before .before .if1 .left) (c .before .before .before .before .before .before .before .before .if3 .left) (c .before .before .before .before .before .before .before .before .before .before .leaf .ensures) (c .before .before .before .before .before .before .before .before .before .if2 .left) (rw (c .before .before .before .before .before .before .wide .ensures .0) at (c .before .before .before .before .before .leaf2 .ensures)) (sym (c .before .before .before .before .needed .ensures) ∙ c .before .before .before .if4 .taken) (simp (c .before .before .word .ensures, c .before .word2 .ensures) at (c .work .ensures))
+returns-4 c = simply-worked _ _ _ (c .before .before .before .before .before .before .before .before .before .before .before .if1 .left) (c .before .before .before .before .before .before .before .if3 .left) (c .before .before .before .before .before .before .before .before .before .leaf .ensures) (c .before .before .before .before .before .before .before .before .if2 .left) (rw (c .before .before .before .before .before .before .wide .ensures .0) at (c .before .before .before .before .before .leaf2 .ensures)) (sym (c .before .before .before .before .needed .ensures) ∙ c .before .before .before .if4 .taken) (simp (c .before .before .word .ensures, c .before .word2 .ensures) at (c .work .ensures))
 
--- src/lib.rt:114:1
+-- src/lib.rt:135:1
 returns-5 : tie.Need-returns-5
 returns-5 c = notSimple
 
@@ -101,18 +85,14 @@ pub simple-spec : {M : Type 1} → statement M
 simple-spec =
     tie.close
     (tie.spec
-    sub-if1
     returns
-    mul-kind
-    element-copy-out-kind
+    mul-node
+    element-copy-out-node
     add-leaf
     leaf-requires
     returns-2
     returns-3
     add-second
-    add-wide
-    mul-wide
-    element-copy-out-wide
     wide-requires
     add-second-2
     leaf-requires-2

@@ -104,7 +104,7 @@ follow-meets : {M : Type 1} (𝓤 : URA M) (H : Heap 𝓤) (A : Atoms 𝓤) (W :
     → Meets 𝓤 H A follow′.signature (WpFn 𝓤 H (𝓣 .C) (𝓣 .Λ) code.function) (follow′.spec 𝓤 H A mem″ run)
 follow-meets 𝓤 H A W mem″ run 𝓣 known =
     walk-meets 𝓤 H A follow′.ended stayed W (
-      goes-dropped 𝓤 H A W 5 (shrRefTo (0 ∷ []) tt (arrayOf (plain (λ _. u32)) 18994)) yes (λ κs x f. refl),
+      goes-dropped 𝓤 H A W 5 (shrRefTo (0 ∷ []) tt (arrayOf (plain (λ _. u32)) 10802)) yes (λ κs x f. refl),
       (
         goes-dropped 𝓤 H A W 5 (plain (λ _. Ctl.the-row)) yes (λ κs x f. refl),
         (

@@ -80,7 +80,7 @@ module _ (R : RattleType) (κ κ′ : Lft) (q : Share) (γ : GName) (b o : ℕ) 
         fjoin ! $ pureI ! (at-slice R (at-list γ zs) (vals zs)) (tt, (tt, tt)) (refl, subst (Room R) (sym e) room) $ fjoin ! $ done !
 
 abbrev pub Code : RattleType
-Code = Array u32 18994
+Code = Array u32 10802
 
 abbrev pub Inputs : RattleType
 Inputs = Array u32 16

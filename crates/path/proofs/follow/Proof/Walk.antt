@@ -89,7 +89,7 @@ use Rattle.path.proofs.follow.Proof.Plain.{Begun, Decide, StopOf, Begin
 -- the references that can be written through are still owned at the exit; nothing is asked of the other parameters
 abbrev pub stayed : Stays (follow′.ended .signature .params) (follow′.ended .kept)
 stayed = (
-  stay-dropped (shrRefTo (0 ∷ []) tt (arrayOf (plain (λ _. u32)) 18994)) yes,
+  stay-dropped (shrRefTo (0 ∷ []) tt (arrayOf (plain (λ _. u32)) 10802)) yes,
   (
     stay-dropped (plain (λ _. Ctl.the-row)) yes,
     (
@@ -150,7 +150,7 @@ abbrev half : Ty
 half = tyInt w32
 
 abbrev code-ref : Ty
-code-ref = tyRef (named 0) imm (tyArray half 18994)
+code-ref = tyRef (named 0) imm (tyArray half 10802)
 
 abbrev inputs-ref : Ty
 inputs-ref = tyRef (named 1) imm (tyArray half 16)

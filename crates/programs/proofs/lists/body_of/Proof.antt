@@ -17,7 +17,7 @@ use Rattle.tokens.proofs.lexemes.past_mark.Reads as past-mark-reads
 
 abbrev Inv-loop : tie.InvT-loop
 Inv-loop text at first vars₀ props₀ calls₀ code₀ out i₀ o₀ count₀ jump₀ vars props calls code i o count jump =
-    Turn text vars₀ vars props₀ props calls₀ calls code₀ code at first out o i count jump × (o ≤ 18995) × (at ≡ i₀)
+    Turn text vars₀ vars props₀ props calls₀ calls code₀ code at first out o i count jump × (o ≤ 10802) × (at ≡ i₀)
 
 abbrev μ-loop : tie.MeasureT-loop
 μ-loop text at first vars₀ props₀ calls₀ code₀ out i₀ o₀ count₀ jump₀ vars props calls code i o count jump =

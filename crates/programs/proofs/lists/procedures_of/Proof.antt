@@ -16,7 +16,7 @@ use Rattle.tokens.proofs.lexemes.token.Reads as token-reads
 
 abbrev Inv-loop : tie.InvT-loop
 Inv-loop text props₀ calls₀ procs₀ code₀ i₀ o₀ n₀ total₀ wide₀ past₀ unended₀ props calls procs code i o n total wide past unended =
-    Round text props₀ props calls₀ calls procs₀ procs code₀ code o i n total wide past unended × (o ≤ 18995) × (total ≤ 16385 * n)
+    Round text props₀ props calls₀ calls procs₀ procs code₀ code o i n total wide past unended × (o ≤ 10802) × (total ≤ 16385 * n)
 
 abbrev μ-loop : tie.MeasureT-loop
 μ-loop text props₀ calls₀ procs₀ code₀ i₀ o₀ n₀ total₀ wide₀ past₀ unended₀ props calls procs code i o n total wide past unended =

@@ -16,8 +16,8 @@ use Rattle.reader.proofs.commands.named_form.Lts as lts
 use Rattle.names.proofs.intern.Reads as intern-reads
 use Rattle.reader.proofs.commands.call_of.Reads as call-of-reads
 use Rattle.reader.proofs.forms.name.Reads as name-reads
-use Rattle.reader.proofs.store.after_node.Reads as after-node-reads
-use Rattle.reader.proofs.store.store_node.Reads as store-node-reads
+use Rattle.reader.proofs.store.after.Reads as after-reads
+use Rattle.reader.proofs.store.store.Reads as store-reads
 use Rattle.tokens.proofs.lexemes.past_mark.Reads as past-mark-reads
 
 -- src/commands.rt:176:9
@@ -41,24 +41,28 @@ intern-requires : tie.Need-intern-requires
 intern-requires c κs = search needs
 
 -- src/commands.rt:181:37
-cast-store-node : tie.Need-cast-store-node
-cast-store-node c = search needs
+cast-store : tie.Need-cast-store
+cast-store c = search needs
 
 -- src/commands.rt:181:5
-store-node-requires : tie.Need-store-node-requires
-store-node-requires c κs = search needs
+add-store : tie.Need-add-store
+add-store c = search needs
+
+-- src/commands.rt:181:5
+store-requires : tie.Need-store-requires
+store-requires c κs = search needs
 
 -- src/commands.rt:184:14
-after-node-requires : tie.Need-after-node-requires
-after-node-requires c κs = search needs
+after-requires : tie.Need-after-requires
+after-requires c κs = search needs
 
 -- src/commands.rt:186:16
-cast-t17 : tie.Need-cast-t17
-cast-t17 c = search needs
+cast-t18 : tie.Need-cast-t18
+cast-t18 c = search needs
 
 -- src/commands.rt:165:1
 returns-2 : tie.Need-returns-2
-returns-2 c = (λ v p. named-var v (c .before .before .before .before .before .before .before .name .result .value) (c .before .before .before .before .before .before .before .name .ensures) (c .before .before .before .before .before .before .past-mark .ensures .other (c .before .before .before .before .before .if1 .left)) refl (λ w i. sets-plain (wrote-var (subst (λ (x : List ℕ). Interned (c .before .before .before .before .before .before .before .before .before .args .text .now) 16 (c .before .before .before .before .before .before .before .before .before .args .vars .now) (c .before .before .before .intern .last .1 .1 .0) x (c .before .before .before .intern .result)) i (c .before .before .before .intern .ensures .0)) (c .after-node .ensures .0) (c .before .store-node .ensures)) refl), c .after-node .ensures .1)
+returns-2 c = (λ v p. named-var v (c .before .before .before .before .before .before .before .name .result .value) (c .before .before .before .before .before .before .before .name .ensures) (c .before .before .before .before .before .before .past-mark .ensures .other (c .before .before .before .before .before .if1 .left)) refl (λ w i. sets-plain (wrote-var (subst (λ (x : List ℕ). Interned (c .before .before .before .before .before .before .before .before .before .args .text .now) 16 (c .before .before .before .before .before .before .before .before .before .args .vars .now) (c .before .before .before .intern .last .1 .1 .0) x (c .before .before .before .intern .result)) i (c .before .before .before .intern .ensures .0)) (c .after .ensures .0) (c .before .store .ensures)) refl), c .after .ensures .1)
 
 pub named-form-spec : {M : Type 1} → statement M
 named-form-spec =
@@ -69,8 +73,9 @@ named-form-spec =
     call-of-requires
     returns
     intern-requires
-    cast-store-node
-    store-node-requires
-    after-node-requires
-    cast-t17
+    cast-store
+    add-store
+    store-requires
+    after-requires
+    cast-t18
     returns-2)

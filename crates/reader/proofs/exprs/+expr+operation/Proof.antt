@@ -20,12 +20,13 @@ use Rattle.reader.proofs.exprs.operation.Kinds as operation-kinds
 use Rattle.reader.proofs.exprs.+expr+operation.Lts-operation as operation-lts
 use Rattle.names.proofs.intern.Reads as intern-reads
 use Rattle.reader.proofs.exprs.leaf.Reads as leaf-reads
+use Rattle.reader.proofs.exprs.number.Reads as number-reads
 use Rattle.reader.proofs.forms.mark.Reads as mark-reads
 use Rattle.reader.proofs.forms.operator.Reads as operator-reads
 use Rattle.reader.proofs.forms.stop.Reads as stop-reads
-use Rattle.reader.proofs.store.after_node.Reads as after-node-reads
+use Rattle.reader.proofs.store.after.Reads as after-reads
 use Rattle.reader.proofs.store.between.Reads as between-reads
-use Rattle.reader.proofs.store.store_node.Reads as store-node-reads
+use Rattle.reader.proofs.store.store.Reads as store-reads
 use Rattle.tokens.proofs.lexemes.token.Reads as token-reads
 use Rattle.reader.proofs.exprs.+expr+operation.{statement}
 use Rattle.reader.proofs.exprs.+expr+operation.Tie.{close}
@@ -50,10 +51,10 @@ operation-below t =
     and 3 operation-kinds.ps (falls 3 operation-kinds.ps _<_ μ-operation t) operation.Pre
 
 abbrev expr-claims : ℕ → expr-lts.Claims
-expr-claims t = (stop-reads.Asked, stop-reads.Learnt, token-reads.Asked, token-reads.Learnt, intern-reads.Asked, intern-reads.Learnt, leaf-reads.Asked, leaf-reads.Learnt, store-node-reads.Asked, store-node-reads.Learnt, after-node-reads.Asked, after-node-reads.Learnt, expr-below t, expr.Post, operation-below t, operation.Post)
+expr-claims t = (stop-reads.Asked, stop-reads.Learnt, token-reads.Asked, token-reads.Learnt, intern-reads.Asked, intern-reads.Learnt, leaf-reads.Asked, leaf-reads.Learnt, number-reads.Asked, number-reads.Learnt, store-reads.Asked, store-reads.Learnt, after-reads.Asked, after-reads.Learnt, expr-below t, expr.Post, operation-below t, operation.Post)
 
 abbrev operation-claims : ℕ → operation-lts.Claims
-operation-claims t = (after-node-reads.Asked, after-node-reads.Learnt, expr-below t, expr.Post, operator-reads.Asked, operator-reads.Learnt, between-reads.Asked, between-reads.Learnt, store-node-reads.Asked, store-node-reads.Learnt, mark-reads.Asked, mark-reads.Learnt)
+operation-claims t = (after-reads.Asked, after-reads.Learnt, expr-below t, expr.Post, operator-reads.Asked, operator-reads.Learnt, between-reads.Asked, between-reads.Learnt, store-reads.Asked, store-reads.Learnt, mark-reads.Asked, mark-reads.Learnt)
 
 expr-stop-requires : (t : ℕ) → expr-lts.Need-stop-requires (expr-claims t) (expr-at t) expr.Post
 expr-stop-requires t c κs = c .before .before .pre .1 .0
@@ -70,8 +71,17 @@ expr-intern-requires t c κs = omega arith
 expr-cast-leaf : (t : ℕ) → expr-lts.Need-cast-leaf (expr-claims t) (expr-at t) expr.Post
 expr-cast-leaf t c = omega (arith, c .before .intern .ensures .1)
 
+expr-add-leaf : (t : ℕ) → expr-lts.Need-add-leaf (expr-claims t) (expr-at t) expr.Post
+expr-add-leaf t c = omega (arith, c .before .intern .ensures .1)
+
 expr-leaf-requires : (t : ℕ) → expr-lts.Need-leaf-requires (expr-claims t) (expr-at t) expr.Post
 expr-leaf-requires t c κs = c .before .before .before .before .before .before .before .pre .1 .1
+
+expr-number-requires : (t : ℕ) → expr-lts.Need-number-requires (expr-claims t) (expr-at t) expr.Post
+expr-number-requires t c κs = c .before .before .before .before .before .pre .1 .1
+
+expr-add-leaf-2 : (t : ℕ) → expr-lts.Need-add-leaf-2 (expr-claims t) (expr-at t) expr.Post
+expr-add-leaf-2 t c = omega arith
 
 expr-leaf-requires-2 : (t : ℕ) → expr-lts.Need-leaf-requires-2 (expr-claims t) (expr-at t) expr.Post
 expr-leaf-requires-2 t c κs = c .before .before .before .before .before .pre .1 .1
@@ -79,20 +89,17 @@ expr-leaf-requires-2 t c κs = c .before .before .before .before .before .pre .1
 expr-leaf-requires-3 : (t : ℕ) → expr-lts.Need-leaf-requires-3 (expr-claims t) (expr-at t) expr.Post
 expr-leaf-requires-3 t c κs = c .before .before .before .before .before .pre .1 .1
 
-expr-leaf-requires-4 : (t : ℕ) → expr-lts.Need-leaf-requires-4 (expr-claims t) (expr-at t) expr.Post
-expr-leaf-requires-4 t c κs = c .before .before .before .before .before .pre .1 .1
-
-expr-store-node-requires : (t : ℕ) → expr-lts.Need-store-node-requires (expr-claims t) (expr-at t) expr.Post
-expr-store-node-requires t c κs = c .before .before .before .before .before .pre .1 .1
+expr-store-requires : (t : ℕ) → expr-lts.Need-store-requires (expr-claims t) (expr-at t) expr.Post
+expr-store-requires t c κs = tt
 
 expr-sub-expr : (t : ℕ) → expr-lts.Need-sub-expr (expr-claims t) (expr-at t) expr.Post
 expr-sub-expr t c = omega arith
 
-expr-after-node-requires : (t : ℕ) → expr-lts.Need-after-node-requires (expr-claims t) (expr-at t) expr.Post
-expr-after-node-requires t c κs = c .before .before .before .before .before .before .before .before .pre .1 .1
+expr-after-requires : (t : ℕ) → expr-lts.Need-after-requires (expr-claims t) (expr-at t) expr.Post
+expr-after-requires t c κs = c .before .before .before .before .before .before .before .before .pre .1 .1
 
 expr-expr-requires : (t : ℕ) → expr-lts.Need-expr-requires (expr-claims t) (expr-at t) expr.Post
-expr-expr-requires t c κs = (omega (arith, c .before .before .before .before .before .before .before .before .before .pre .0, c .before .before .before .before .before .before .before .if1 .left), (c .before .before .before .before .before .before .before .before .before .pre .1 .0, c .after-node .ensures .1))
+expr-expr-requires t c κs = (omega (arith, c .before .before .before .before .before .before .before .before .before .pre .0, c .before .before .before .before .before .before .before .if1 .left), (c .before .before .before .before .before .before .before .before .before .pre .1 .0, c .after .ensures .1))
 
 expr-sub-operation : (t : ℕ) → expr-lts.Need-sub-operation (expr-claims t) (expr-at t) expr.Post
 expr-sub-operation t c = omega arith
@@ -109,19 +116,19 @@ expr-returns-2 t c = (expr-leaf (c .before .before .before .before .before .toke
 
 expr-returns-3 : (t : ℕ) → expr-lts.Need-returns-3 (expr-claims t) (expr-at t) expr.Post
 unfolding exprBy
-expr-returns-3 t c = (expr-leaf (c .before .before .before .token .ensures) (c .before .before .before .before .before .before .args .depth) (c .before .before .before .before .if1 .left) (num (c .before .before .before .token .result .value)) 257 (c .before .before .match .keys2) (λ z. omega arith) refl (c .leaf2 .ensures .0) (wrote-num (c .before .before .before .token .result .value) (c .leaf2 .ensures .1) (c .leaf2 .ensures .3)), c .leaf2 .ensures .2)
+expr-returns-3 t c = (expr-leaf (c .before .before .before .token .ensures) (c .before .before .before .before .before .before .args .depth) (c .before .before .before .before .if1 .left) (num (c .before .before .before .token .result .value)) 257 (c .before .before .match .keys2) (λ z. omega arith) refl (c .number .ensures .0) (wrote-num (c .before .before .before .token .result .value) (c .number .ensures .1) (c .number .ensures .3)), c .number .ensures .2)
 
 expr-returns-4 : (t : ℕ) → expr-lts.Need-returns-4 (expr-claims t) (expr-at t) expr.Post
 unfolding exprBy exprByKey bit
-expr-returns-4 t c = (expr-leaf (c .before .before .before .token .ensures) (c .before .before .before .before .before .before .args .depth) (c .before .before .before .before .if1 .left) (bool true) 276 (c .before .before .match .keys3) (λ z. omega arith) refl (c .leaf3 .ensures .0) (wrote-bool true 1 refl (c .leaf3 .ensures .1) (c .leaf3 .ensures .3)), c .leaf3 .ensures .2)
+expr-returns-4 t c = (expr-leaf (c .before .before .before .token .ensures) (c .before .before .before .before .before .before .args .depth) (c .before .before .before .before .if1 .left) (bool true) 276 (c .before .before .match .keys3) (λ z. omega arith) refl (c .leaf2 .ensures .0) (wrote-bool true _ refl (c .leaf2 .ensures .1) (c .leaf2 .ensures .3)), c .leaf2 .ensures .2)
 
 expr-returns-5 : (t : ℕ) → expr-lts.Need-returns-5 (expr-claims t) (expr-at t) expr.Post
 unfolding exprBy exprByKey bit
-expr-returns-5 t c = (expr-leaf (c .before .before .before .token .ensures) (c .before .before .before .before .before .before .args .depth) (c .before .before .before .before .if1 .left) (bool false) 277 (c .before .before .match .keys4) (λ z. omega arith) refl (c .leaf4 .ensures .0) (wrote-bool false 0 refl (c .leaf4 .ensures .1) (c .leaf4 .ensures .3)), c .leaf4 .ensures .2)
+expr-returns-5 t c = (expr-leaf (c .before .before .before .token .ensures) (c .before .before .before .before .before .before .args .depth) (c .before .before .before .before .if1 .left) (bool false) 277 (c .before .before .match .keys4) (λ z. omega arith) refl (c .leaf3 .ensures .0) (wrote-bool false _ refl (c .leaf3 .ensures .1) (c .leaf3 .ensures .3)), c .leaf3 .ensures .2)
 
 expr-returns-6 : (t : ℕ) → expr-lts.Need-returns-6 (expr-claims t) (expr-at t) expr.Post
 unfolding exprBy exprByKey
-expr-returns-6 t c = (expr-form (c .before .before .before .before .before .before .before .token .ensures) (c .before .before .before .before .before .before .before .before .before .before .args .depth) (c .before .before .before .before .before .before .before .before .if1 .left) (negation (exprDeep (c .before .before .before .before .before .before .before .before .before .before .args .depth - 1))) 278 (c .before .before .before .before .before .before .match .keys5) (λ z. omega arith) refl (negation-goes (exprDeep (c .before .before .before .before .before .before .before .before .before .before .args .depth - 1)) (λ a q. wrote-neg (c .before .before .before .before .store-node .ensures) (c .before .after-node .ensures .0) q) (c .expr .ensures .0)), c .expr .ensures .1)
+expr-returns-6 t c = (expr-form (c .before .before .before .before .before .before .before .token .ensures) (c .before .before .before .before .before .before .before .before .before .before .args .depth) (c .before .before .before .before .before .before .before .before .if1 .left) (negation (exprDeep (c .before .before .before .before .before .before .before .before .before .before .args .depth - 1))) 278 (c .before .before .before .before .before .before .match .keys5) (λ z. omega arith) refl (negation-goes (exprDeep (c .before .before .before .before .before .before .before .before .before .before .args .depth - 1)) (λ a q. wrote-neg (c .before .before .before .before .store .ensures) (c .before .after .ensures .0) q) (c .expr .ensures .0)), c .expr .ensures .1)
 
 expr-returns-7 : (t : ℕ) → expr-lts.Need-returns-7 (expr-claims t) (expr-at t) expr.Post
 unfolding exprBy exprByKey
@@ -130,29 +137,35 @@ expr-returns-7 t c = (expr-form (c .before .before .before .before .token .ensur
 expr-returns-8 : (t : ℕ) → expr-lts.Need-returns-8 (expr-claims t) (expr-at t) expr.Post
 expr-returns-8 t c = (expr-none (c .before .before .token .ensures) (c .before .before .before .before .before .args .depth) (c .before .before .before .if1 .left) (c .before .match .rest .0 .0 .0 .0 .0 .1) (c .before .match .rest .0 .0 .0 .0 .1) (c .before .match .rest .0 .0 .0 .1) (c .before .match .rest .0 .0 .1) (c .before .match .rest .0 .1) (c .before .match .rest .1) (c .stop2 .ensures), c .before .before .before .before .before .pre .1 .1)
 
-operation-after-node-requires : (t : ℕ) → operation-lts.Need-after-node-requires (operation-claims t) (operation-at t) operation.Post
-operation-after-node-requires t c κs = c .before .before .before .pre .1 .1
+operation-after-requires : (t : ℕ) → operation-lts.Need-after-requires (operation-claims t) (operation-at t) operation.Post
+operation-after-requires t c κs = c .before .before .before .pre .1 .1
 
 operation-expr-requires : (t : ℕ) → operation-lts.Need-expr-requires (operation-claims t) (operation-at t) operation.Post
-operation-expr-requires t c κs = (omega (arith, c .before .before .before .before .pre .0), (c .before .before .before .before .pre .1 .0, c .after-node .ensures .1))
+operation-expr-requires t c κs = (omega (arith, c .before .before .before .before .pre .0), (c .before .before .before .before .pre .1 .0, c .after .ensures .1))
 
 operation-operator-requires : (t : ℕ) → operation-lts.Need-operator-requires (operation-claims t) (operation-at t) operation.Post
 operation-operator-requires t c κs = c .before .before .before .before .before .pre .1 .0
 
-operation-between-requires : (t : ℕ) → operation-lts.Need-between-requires (operation-claims t) (operation-at t) operation.Post
-operation-between-requires t c κs = (c .before .before .before .before .before .before .before .pre .1 .1, c .before .before .expr .ensures .1)
+operation-mul-store : (t : ℕ) → operation-lts.Need-mul-store (operation-claims t) (operation-at t) operation.Post
+operation-mul-store t c = omega (arith, c .before .before .operator .ensures .1)
 
-operation-store-node-requires : (t : ℕ) → operation-lts.Need-store-node-requires (operation-claims t) (operation-at t) operation.Post
-operation-store-node-requires t c κs = c .before .before .before .before .before .before .before .before .pre .1 .1
+operation-between-requires : (t : ℕ) → operation-lts.Need-between-requires (operation-claims t) (operation-at t) operation.Post
+operation-between-requires t c κs = (c .before .before .before .before .before .before .before .before .pre .1 .1, c .before .before .before .expr .ensures .1)
+
+operation-add-store : (t : ℕ) → operation-lts.Need-add-store (operation-claims t) (operation-at t) operation.Post
+operation-add-store t c = omega (arith, c .before .before .before .operator .ensures .1, c .between .ensures .1)
+
+operation-store-requires : (t : ℕ) → operation-lts.Need-store-requires (operation-claims t) (operation-at t) operation.Post
+operation-store-requires t c κs = tt
 
 operation-expr-requires-2 : (t : ℕ) → operation-lts.Need-expr-requires-2 (operation-claims t) (operation-at t) operation.Post
-operation-expr-requires-2 t c κs = (omega (arith, c .before .before .before .before .before .before .before .before .before .before .before .pre .0), (c .before .before .before .before .before .before .before .before .before .before .before .pre .1 .0, c .before .before .before .before .before .before .expr .ensures .1))
+operation-expr-requires-2 t c κs = (omega (arith, c .before .before .before .before .before .before .before .before .before .before .before .before .pre .0), (c .before .before .before .before .before .before .before .before .before .before .before .before .pre .1 .0, c .before .before .before .before .before .before .before .expr .ensures .1))
 
 operation-mark-requires : (t : ℕ) → operation-lts.Need-mark-requires (operation-claims t) (operation-at t) operation.Post
-operation-mark-requires t c κs = (c .before .before .before .before .before .before .before .before .before .before .before .before .pre .1 .0, refl)
+operation-mark-requires t c κs = (c .before .before .before .before .before .before .before .before .before .before .before .before .before .pre .1 .0, refl)
 
 operation-returns : (t : ℕ) → operation-lts.Need-returns (operation-claims t) (operation-at t) operation.Post
-operation-returns t c = (bracketed-goes (exprDeep (c .before .before .before .before .before .before .before .before .before .before .before .before .before .args .depth)) (λ a b o qa qo qb. wrote-bin (c .before .before .before .before .before .before .before .before .before .before .before .before .before .args .out) o (c .before .before .before .before .before .before .before .before .before .after-node .ensures .0) qa qo (c .before .before .before .before .store-node .ensures) (c .before .before .before .before .before .between .ensures) qb) (c .before .before .before .before .before .before .before .before .expr .ensures .0) (c .before .before .before .before .before .before .before .operator .ensures) (c .before .expr2 .ensures .0) (c .mark .ensures), c .before .expr2 .ensures .1)
+operation-returns t c = (bracketed-goes (exprDeep (c .before .before .before .before .before .before .before .before .before .before .before .before .before .before .args .depth)) (λ a b o qa qo qb. wrote-bin (c .before .before .before .before .before .before .before .before .before .before .before .before .before .before .args .out) o (c .before .before .before .before .before .before .before .before .before .before .after .ensures .0) qa qo (c .before .before .before .before .store .ensures) (c .before .before .before .before .before .between .ensures .0) qb) (c .before .before .before .before .before .before .before .before .before .expr .ensures .0) (c .before .before .before .before .before .before .before .before .operator .ensures .0) (c .before .expr2 .ensures .0) (c .mark .ensures), c .before .expr2 .ensures .1)
 
 pub +expr+operation-spec : {M : Type 1} → statement M
 +expr+operation-spec = close μ-expr μ-operation (λ t. expr-lts.spec (expr-claims t)
@@ -163,13 +176,15 @@ pub +expr+operation-spec : {M : Type 1} → statement M
     (expr-token-requires t)
     (expr-intern-requires t)
     (expr-cast-leaf t)
+    (expr-add-leaf t)
     (expr-leaf-requires t)
+    (expr-number-requires t)
+    (expr-add-leaf-2 t)
     (expr-leaf-requires-2 t)
     (expr-leaf-requires-3 t)
-    (expr-leaf-requires-4 t)
-    (expr-store-node-requires t)
+    (expr-store-requires t)
     (expr-sub-expr t)
-    (expr-after-node-requires t)
+    (expr-after-requires t)
     (expr-expr-requires t)
     (expr-sub-operation t)
     (expr-operation-requires t)
@@ -181,14 +196,29 @@ pub +expr+operation-spec : {M : Type 1} → statement M
     (expr-returns-6 t)
     (expr-returns-7 t)
     (expr-returns-8 t))
-    λ t. operation-lts.spec (operation-claims t)
+    λ t. operation-lts.spec (
+      after-reads.Asked,
+      after-reads.Learnt,
+      expr-below t,
+      expr.Post,
+      operator-reads.Asked,
+      operator-reads.Learnt,
+      between-reads.Asked,
+      between-reads.Learnt,
+      store-reads.Asked,
+      store-reads.Learnt,
+      mark-reads.Asked,
+      mark-reads.Learnt,
+    )
     (operation-at t)
     operation.Post
-    (operation-after-node-requires t)
+    (operation-after-requires t)
     (operation-expr-requires t)
     (operation-operator-requires t)
+    (operation-mul-store t)
     (operation-between-requires t)
-    (operation-store-node-requires t)
+    (operation-add-store t)
+    (operation-store-requires t)
     (operation-expr-requires-2 t)
     (operation-mark-requires t)
     (operation-returns t)

@@ -18,12 +18,12 @@ element-write-words c = search needs
 -- src/store.rt:6:1
 returns : tie.Need-returns
 unfolding put
-returns c = rw (lt-ltb (c .before .args .at) 18994 (c .if1 .taken), put)
+returns c = rw (lt-ltb (c .before .args .at) 10802 (c .if1 .taken), put)
 
 -- src/store.rt:6:1
 returns-2 : tie.Need-returns-2
 unfolding put
-returns-2 c = rw (le-ltb (c .before .args .at) 18994 (c .if1 .left), put)
+returns-2 c = rw (le-ltb (c .before .args .at) 10802 (c .if1 .left), put)
 
 pub store-spec : {M : Type 1} → statement M
 store-spec = tie.close (tie.spec mul-words element-write-words returns returns-2)
