@@ -10,7 +10,7 @@ use Rattle.gil.specs.Tree.{Op, plus, minus, equal, less, and, or, Expr, num, bo
 use Rattle.gil.specs.Names.{gather, Procedure, Program}
 use Rattle.gil.specs.Layout.{bit, room}
 
--- a node: its kind in the upper four bits, a number in the other 28. The kinds: 0 number, 1 variable, 2 truth, 3 a number of more than 28
+-- a node: its kind in the upper four bits, a number in the other 28. The kinds: 0 number, 1 truth, 2 variable, 3 a number of more than 28
 -- bits, which stands in the next word, 4 `not`, 5 to 10 the operators
 abbrev pub node : ℕ → ℕ → ℕ
 node kind w = 268435456 * kind + w
@@ -29,8 +29,8 @@ numberWords n = elim (ltb n 268435456) [ true ↦ n ∷ [] | false ↦ node 3 0 
 -- an expression's words: beside its kind a node has its number, its variable or, for an operator, how many words its first operand takes
 unfoldable pub exprWords : Expr ℕ → List ℕ
 exprWords (num n) = numberWords n
-exprWords (bool b) = node 2 (bit b) ∷ []
-exprWords (var x) = node 1 x ∷ []
+exprWords (bool b) = node 1 (bit b) ∷ []
+exprWords (var x) = node 2 x ∷ []
 exprWords (neg e) = node 4 0 ∷ exprWords e
 exprWords (bin o a b) = node (opWord o) (length (exprWords a)) ∷ (exprWords a ++ exprWords b)
 

@@ -23,11 +23,8 @@ module _ (code store : List ℕ) (frame : ℕ) where
   -- the node at a place, if it is no operator
   unfoldable pub leafOf : ℕ → ℕ → ℕ
   leafOf at node =
-      if? (ltb node 268435456) (4294967296 + node)
-      (if? (ltb node 1073741824)
-      (if? (ltb node 536870912) (variableIn store frame (node - 268435456))
-      (if? (ltb node 805306368) (8589934592 + (node - 536870912)) (numberIn code (at + 1))))
-      0)
+      if? (ltb node 536870912) (4294967296 * (node / 268435456 + 1) + node % 268435456)
+      (if? (ltb node 805306368) (variableIn store frame (node - 536870912)) (if? (ltb node 1073741824) (numberIn code (at + 1)) 0))
 
   unfoldable pub leafIn : ℕ → ℕ
   leafIn at = if? (ltb at 10802) (leafOf at (getD code at 0)) 1

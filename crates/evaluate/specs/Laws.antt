@@ -67,19 +67,20 @@ module _ (code store : List ℕ) (frame at : ℕ) where
   unfolding leafOf
   op-node o w =
       let h = op-high o in
-      simp (le-ltb (node (opWord o) w) 268435456 (omega arith), le-ltb (node (opWord o) w) 1073741824 (omega arith))
+      simp
+      (le-ltb (node (opWord o) w) 536870912 (omega arith), le-ltb (node (opWord o) w) 805306368 (omega arith), le-ltb (node (opWord o) w) 1073741824 (omega arith))
 
   near-node : (n : ℕ) → n < 268435456 → leafOf code store frame at n ≡ 4294967296 + n
   unfolding leafOf
-  near-node n h = simp (lt-ltb n 268435456 h)
+  near-node n h = let e : 4294967296 * (n / 268435456 + 1) + n % 268435456 ≡ 4294967296 + n = omega arith in simp (lt-ltb n 536870912 (omega arith)) e
 
-  variable-node : (x : ℕ) → x < 16 → leafOf code store frame at (node 1 x) ≡ variableIn store frame x
+  variable-node : (x : ℕ) → x < 16 → leafOf code store frame at (node 2 x) ≡ variableIn store frame x
   unfolding leafOf
   variable-node x h =
-      let e : node 1 x - 268435456 ≡ x = omega arith in
-      simp (le-ltb (node 1 x) 268435456 (omega arith), lt-ltb (node 1 x) 1073741824 (omega arith), lt-ltb (node 1 x) 536870912 (omega arith), e)
+      let e : node 2 x - 536870912 ≡ x = omega arith in
+      simp (le-ltb (node 2 x) 536870912 (omega arith), lt-ltb (node 2 x) 805306368 (omega arith), e)
 
-  truth-node : (b : Bool) → leafOf code store frame at (node 2 (bit b)) ≡ truthWord b
+  truth-node : (b : Bool) → leafOf code store frame at (node 1 (bit b)) ≡ truthWord b
   unfolding leafOf bit truthWord
   truth-node true = refl
   truth-node false = refl

@@ -3,14 +3,13 @@
 // is no call of its own. The store has 19 words for each of 8 frames: 16 variables, 0 where nothing is bound, and the three of a return
 // place. Words are read as they stand; specs/Laws.antt shows that on a program's words this is document 01's evaluation.
 ghost use mathlib.Core.Path.{_≡_};
-ghost use Prim.Native.Nat.{_<_};
+ghost use Prim.Native.Nat.{_+_, _*_, _/_, _%_, _<_};
 ghost use Rattle.terms.specs.Made.{did};
 ghost use Rattle.evaluate.specs.Evaluated.{variableIn, numberIn, leafIn, operandIn, operatorIn, evaluateIn, Simple};
 use code::CODE_WORDS;
 use code::KIND;
 use code::NEXT_WORD;
 use code::NOT;
-use code::TRUTH;
 use code::VARIABLE;
 use values::FALSE;
 use values::VALUES;
@@ -49,6 +48,14 @@ fn number_at(code: &[u32; CODE_WORDS], at: usize) -> u64
     NOT_BOUND
 }
 
+// A number or a truth: the tags of their values are one more than the kinds of their nodes
+fn constant(node: u32) -> u64
+    requires { ⌜ node < 536870912 ⌝ }
+    ensures { λ r. ⌜ r ≡ 4294967296 * (node / 268435456 + 1) + node % 268435456 ⌝ }
+{
+    VALUES * (node / KIND + 1) as u64 + (node % KIND) as u64
+}
+
 // A number, a truth or a variable; 0 where an operator stands. The tests stand in the order that runs fastest.
 fn leaf(code: &[u32; CODE_WORDS], at: usize, store: &[u64; STORE_WORDS], frame: u32) -> u64
     ensures { λ r. ⌜ r ≡ leafIn (now (code .entry)) (now (store .entry)) frame at ⌝ }
@@ -58,16 +65,13 @@ fn leaf(code: &[u32; CODE_WORDS], at: usize, store: &[u64; STORE_WORDS], frame: 
     }
     let node = code[at];
     if node < VARIABLE {
-        return values::number(node);
+        return constant(node);
+    }
+    if node < NEXT_WORD {
+        return variable(store, frame, node - VARIABLE);
     }
     if NOT <= node {
         return 0;
-    }
-    if node < TRUTH {
-        return variable(store, frame, node - VARIABLE);
-    }
-    if node < NEXT_WORD {
-        return values::truth_of(node - TRUTH);
     }
     number_at(code, at + 1)
 }

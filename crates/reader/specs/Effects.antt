@@ -35,20 +35,20 @@ pub record Wrote (s t t′ code code′ : List ℕ) (out out′ : ℕ) (e : Expr
   pub words : (all more : List Name) → Kept s 16 t all → length code ≡ 10802 → out + exprSize e ≤ 10802 → code′ ≡ sets code out (nodesOf (withNames all (exprVars e ++ more)) e)
 
 module _ {s t t′ code code′ : List ℕ} {out out′ : ℕ} where
-  pub wrote-var : {w : Name} {r : ℕ} → Interned s 16 t t′ w r → out′ ≡ upFrom out → code′ ≡ put code out (node 1 r) → Wrote s t t′ code code′ out out′ (var w)
+  pub wrote-var : {w : Name} {r : ℕ} → Interned s 16 t t′ w r → out′ ≡ upFrom out → code′ ≡ put code out (node 2 r) → Wrote s t t′ code code′ out out′ (var w)
   unfolding exprVars exprSize
   wrote-var {w} {r} i o c =
       record {
         vars = grows-one i;
-        long = ap length c ∙ put-long code out (node 1 r);
+        long = ap length c ∙ put-long code out (node 2 r);
         size = λ h. o ∙ up-room out h;
-        words = λ all more k l h. c ∙ put-set code out (node 1 r) l ∙ ap (λ (n : ℕ). set code out (node 1 n)) (i .number all k ∙ stays all more) ∙ is all more;
+        words = λ all more k l h. c ∙ put-set code out (node 2 r) l ∙ ap (λ (n : ℕ). set code out (node 2 n)) (i .number all k ∙ stays all more) ∙ is all more;
       }
     where
       stays : (all more : List Name) → numberIn 16 (withName all w) w ≡ numberIn 16 (withNames all (w ∷ more)) w
       stays all more = sym (number-stays 16 all w more)
 
-      is : (all more : List Name) → set code out (node 1 (numberIn 16 (withNames all (w ∷ more)) w)) ≡ sets code out (nodesOf (withNames all (w ∷ more)) (var w))
+      is : (all more : List Name) → set code out (node 2 (numberIn 16 (withNames all (w ∷ more)) w)) ≡ sets code out (nodesOf (withNames all (w ∷ more)) (var w))
       is all more = unfold nodesOf exprWords renameExpr in refl
 
 module _ {s t code code′ : List ℕ} {out out′ : ℕ} where
@@ -62,7 +62,7 @@ module _ {s t code code′ : List ℕ} {out out′ : ℕ} where
         words = λ all more k l h. c ∙ number-sets code out n l h;
       }
 
-  pub wrote-bool : (b : Bool) (v : ℕ) → v ≡ node 2 (bit b) → out′ ≡ upFrom out → code′ ≡ put code out v → Wrote s t t code code′ out out′ (bool b)
+  pub wrote-bool : (b : Bool) (v : ℕ) → v ≡ node 1 (bit b) → out′ ≡ upFrom out → code′ ≡ put code out v → Wrote s t t code code′ out out′ (bool b)
   unfolding exprVars exprSize nodesOf exprWords renameExpr
   wrote-bool b v z o c =
       record {

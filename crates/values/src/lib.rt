@@ -45,13 +45,6 @@ pub fn truth(b: bool) -> u64
     if b { FALSE + 1 } else { FALSE }
 }
 
-// The truth of a word that is 0 or 1
-pub fn truth_of(w: u32) -> u64
-    ensures { λ r. ⌜ r ≡ 8589934592 + w ⌝ }
-{
-    FALSE + w as u64
-}
-
 pub fn located(l: Location) -> u64
     ensures { λ r. ⌜ r ≡ 12884901888 + l .0 ⌝ }
 {
