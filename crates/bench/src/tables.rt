@@ -1,5 +1,4 @@
 // An accepted program explored into lent memory that may be longer than is needed: the surplus stays as it was.
-ghost use mathlib.Core.Path.{_≡_};
 ghost use Prim.Native.Nat.{_≤_};
 ghost use lib.ListN.{length};
 ghost use Rattle.bench.specs.Tables.{Leaves};

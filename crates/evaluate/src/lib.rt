@@ -11,7 +11,6 @@ use code::KIND;
 use code::NEXT_WORD;
 use code::NOT;
 use code::VARIABLE;
-use values::FALSE;
 use values::VALUES;
 
 // 8 frames of 19 words

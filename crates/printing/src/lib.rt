@@ -5,7 +5,6 @@ ghost use mathlib.Core.Path.{_≡_};
 ghost use Prim.Native.Nat.{_<_};
 ghost use Rattle.gil.specs.Printed.{refusalLine};
 ghost use Rattle.writing.specs.Written.{Wrote, atMost, Front};
-ghost use Rattle.fields.specs.Forms.{fieldForm};
 ghost use Rattle.printing.specs.Promise.{Renders};
 ghost use Rattle.printing.specs.Forms.{runs, cutForm, outcomeForm, unlessForm, rowWord, nameForm, conditionForm, furtherForm, conditionsForm, startForm, placeForm, rowForm, tableForm};
 use fields::LARGE;

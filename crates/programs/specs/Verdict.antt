@@ -36,9 +36,6 @@ unfolding anyLost
 lost-many s k t n m e h = sym (rw (lt-ltb 16 (getD k 32 0) (omega arith), anyLost))
 
 module _ (s k t : List ℕ) (n m : ℕ) (e : m ≡ getD k 32 0) (h : m ≤ 16) (l : length k ≡ 33) where
-  lost-from : ℕ → Bool
-  lost-from i = any (lost s t n) (map (nameAt s) (drop i (take m k)))
-
   pub lost-all : anyLost s k t n ≡ any (lost s t n) (map (nameAt s) (drop 0 (take m k)))
   unfolding anyLost
   lost-all = rw (le-ltb 16 (getD k 32 0) (omega arith), anyLost) (ap (λ (j : ℕ). any (lost s t n) (map (nameAt s) (take j k))) (sym e))

@@ -2,7 +2,6 @@
 ghost use mathlib.Core.Path.{_≡_};
 ghost use Prim.Native.Nat.{suc, _+_, _≤_, max};
 ghost use mathlib.Core.Bool.{_||_};
-ghost use lib.ListN.{length};
 ghost use Rattle.reader.specs.Goes.{Goes};
 ghost use Rattle.gil.specs.Reading.{commands, procedure, procedures};
 ghost use Rattle.programs.specs.Lists.{Lists};

@@ -9,7 +9,7 @@ ghost use lib.Dec.{ltb};
 ghost use Rattle.gil.specs.Tree.{Name};
 ghost use Rattle.gil.specs.Reading.{procedures};
 ghost use Rattle.gil.specs.Names.{withNames, tested};
-ghost use Rattle.gil.specs.Calls.{textAnswer, checkCall};
+ghost use Rattle.gil.specs.Calls.{textAnswer};
 ghost use Rattle.names.specs.Tables.{Kept};
 ghost use Rattle.reader.specs.Goes.{Goes};
 ghost use Rattle.programs.specs.Procedures.{Tells};

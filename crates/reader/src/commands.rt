@@ -1,9 +1,7 @@
 // Commands: each form is read by a function of its own, which puts its names into the tables and its expressions into the words.
-ghost use mathlib.Core.Path.{_≡_};
 ghost use mathlib.Core.List.{List};
 ghost use Prim.Native.Nat.{ℕ, suc, _≤_};
 ghost use mathlib.Core.Bool.{true, false};
-ghost use lib.ListN.{length};
 ghost use Rattle.gil.specs.Text.{lexeme};
 ghost use Rattle.gil.specs.Tree.{Name, Expr, Cmd};
 ghost use Rattle.gil.specs.Reading.{callOf, lookupOf, mutateOf, disposeOf, named, assignment, valueFrom, settingOf, jumpOf, endingOf, command};

@@ -1,7 +1,6 @@
 // Expressions, "at most eight deep": read by recursion with the depth that is left, into prefix words from `out` on.
 ghost use mathlib.Core.Path.{_≡_};
 ghost use Prim.Native.Nat.{suc, _≤_};
-ghost use lib.ListN.{length};
 ghost use Rattle.gil.specs.Reading.{exprDeep, bracketed};
 ghost use Rattle.reader.specs.Goes.{Goes};
 ghost use Rattle.reader.specs.Stores.{put, putNumber, afterNumber, upFrom};

@@ -1,6 +1,6 @@
 // The small forms: a given mark, `:=`, a name, a property, a number, an operator.
 ghost use mathlib.Core.Path.{_≡_};
-ghost use Prim.Native.Nat.{suc, _≤_, _<_};
+ghost use Prim.Native.Nat.{suc, _≤_};
 ghost use lib.ListN.{length};
 ghost use Rattle.gil.specs.Reading.{theMark, theBecomes, theName, theProperty, theNumber, theOp};
 ghost use mathlib.Core.Bool.{true};

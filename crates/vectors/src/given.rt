@@ -1,7 +1,6 @@
 // The program's arguments: the names of files, and numbers. Each is printed where it is read, so that a vector's line begins with what
 // it was given.
 ghost use Rattle.io.specs.Counts.{Counts};
-ghost use mathlib.Core.Path.{_≡_};
 ghost use Prim.Native.Nat.{_<_};
 use crate::bytes::text;
 
