@@ -1,8 +1,8 @@
 // One command of the engine. Control goes in and comes back by value; variables and return places stand in the lent store, terms in the lent
-// pool. `step` takes every command but the three actions on cells, which `memory` takes, so that only an action passes the array of cells
-// by value. Each command's errors come in document 01's order, and a command that errs, ends or forks leaves the store as it was. With known
-// inputs `iSym` yields the input itself, so that no term is made and no fork taken. Words are read as they stand; specs/Laws.antt shows that
-// on a program's words one command here is one move of document 01's machine.
+// pool. `step` takes every command but the three actions on cells, which crates/actions has, so that nothing here sees a cell. Each
+// command's errors come in document 01's order, and a command that errs, ends or forks leaves the store as it was. With known inputs `iSym`
+// yields the input itself, so that no term is made and no fork taken. Words are read as they stand; crates/engine shows that on a program's
+// words one command here is one move of document 01's machine.
 ghost use mathlib.Core.Path.{_≡_};
 ghost use Prim.Native.Nat.{_<_};
 ghost use Rattle.terms.specs.Made.{did};

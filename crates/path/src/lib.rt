@@ -67,7 +67,7 @@ fn acts(kind: u32) -> bool
 }
 
 // How far a path has come. It waits for what the cells give to `ask`, which goes to the variable `target`; where nothing is asked, kind 0, it
-// stands before a command. Or it has stopped, as `Stop` says. In this order of the fields the compiler keeps most of them in registers.
+// stands before a command. Or it has stopped, as `Stop` says. The order of the fields was chosen by timing (docs/ENGINE.md, Speed).
 pub struct Progress {
     pub ask: Ask,
     pub held: usize,
