@@ -196,7 +196,7 @@ main('unsigned', 'a := (2147483647 < 2147483648); b := (4294967295 < 0); c := (0
 main('booleans', 'a := (true and true); b := (true and false); c := (false or true); d := (false or false); e := not false; f := not true; return (a = e);',
      'returned true', '0.6', 7, '0 true false true false true false')
 main('depth-8', 'return (((((((x + 1) + 1) + 1) + 1) + 1) + 1) - 9);', 'returned 4294967293', '0.0', 1, '0')
-# a number of 28 bits stands beside its node's kind, a longer one in a word of its own (crates/code/specs/Code.antt)
+# a number of 28 bits stands beside its node's kind, a longer one in a word of its own (crates/machine_code/specs/Code.antt)
 main('bits-28', 'a := (268435455 + 268435456); b := ((268435456 + 1) - (2 + 268435455)); c := not (536870912 = 268435456); return (805306368 - a);',
      'returned 268435457', '0.3', 4, '0 536870911 0 true')
 

@@ -7,8 +7,8 @@ use mathlib.Core.List.{List, [], _∷_, _++_}
 use lib.ListN.{length, getD, set, take}
 use lib.Seq.{take-all, take-suc, take-suc-set}
 use Rattle.gil.specs.Layout.{inputWords}
-use Rattle.words.specs.Words.{wordAt}
-use Rattle.locate.specs.Inputs.{Bytes, input-word}
+use Rattle.lent_words.specs.Words.{wordAt}
+use Rattle.table_locate.specs.Inputs.{Bytes, input-word}
 
 -- each of them is a word
 pub words-small : (inputs : List ℕ) → Bytes inputs → (i : ℕ) → getD (inputWords inputs) i 0 < 4294967296

@@ -7,12 +7,13 @@ use lib.ListN.{length}
 use lib.Dec.{ltb}
 use borrow.Author.Tests.{lt-ltb, le-ltb, ltb-false}
 use Rattle.gil.specs.Calls.{wrongBudget, wrongInputs, PlainAnswer, plainOn, plainCall}
-use Rattle.gil.specs.Layout.{answerLength, inputWords}
-use Rattle.code.specs.Accepted.{accepted-well-formed}
-use Rattle.locate.specs.Inputs.{Bytes}
-use Rattle.run.specs.Ran.{Answered}
-use Rattle.run.specs.Laws.{run-leaves}
-use Rattle.programs.specs.Reads.{Reads}
+use Rattle.gil.specs.Numbers.{answerLength}
+use Rattle.gil.specs.Layout.{inputWords}
+use Rattle.machine_code.specs.Accepted.{accepted-well-formed}
+use Rattle.table_locate.specs.Inputs.{Bytes}
+use Rattle.table_plain_run.specs.Ran.{Answered}
+use Rattle.table_plain_run.specs.Laws.{run-leaves}
+use Rattle.text_programs.specs.Reads.{Reads}
 use Rattle.bench.specs.Answers.{first-budget, first-lent, first-text, refused-by, accepted-by, or-first, or-second, or-neither}
 use Rattle.bench.specs.Inputs.{words-small}
 

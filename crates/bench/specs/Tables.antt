@@ -13,16 +13,16 @@ use Rattle.gil.specs.Explore as Explore
 use Rattle.gil.specs.Pool.{Pool, Ref}
 use Rattle.gil.specs.Pool as Pools
 use Rattle.gil.specs.Calls.{firstOf, wrongBudgets, shortTables, wrongInputs, TableAnswer, tablesAfter, exploreOn, succeeds, exploreCall, placesIn, placeCall}
-use Rattle.gil.specs.Layout.{tableLength, poolLength}
-use Rattle.code.specs.Code.{programWords}
-use Rattle.code.specs.WellFormed.{WellFormed}
-use Rattle.code.specs.Accepted.{accepted-well-formed}
-use Rattle.locate.specs.Inputs.{Bytes}
-use Rattle.locate.specs.Located.{locateIn}
-use Rattle.locate.specs.Place.{place-law}
-use Rattle.walk.specs.Walked.{Explored, exploreIn}
-use Rattle.walk.specs.Leaves.{ExploredAs, wasRefused, wasExplored, explore-as, explore-leaves}
-use Rattle.programs.specs.Reads.{Reads}
+use Rattle.gil.specs.Numbers.{tableLength, poolLength}
+use Rattle.machine_code.specs.Code.{programWords}
+use Rattle.machine_code.specs.WellFormed.{WellFormed}
+use Rattle.machine_code.specs.Accepted.{accepted-well-formed}
+use Rattle.table_locate.specs.Inputs.{Bytes}
+use Rattle.table_locate.specs.Located.{locateIn}
+use Rattle.table_locate.specs.Place.{place-law}
+use Rattle.table_explore.specs.Walked.{Explored, exploreIn}
+use Rattle.table_explore.specs.Leaves.{ExploredAs, wasRefused, wasExplored, explore-as, explore-leaves}
+use Rattle.text_programs.specs.Reads.{Reads}
 use Rattle.bench.specs.Answers.{first-budget, first-lent, first-text, refused-by, accepted-by, or-first, or-second, or-neither, or-false, and-second, inputs-long}
 
 -- the exploration of the needed parts, and the surplus as it was

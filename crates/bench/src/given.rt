@@ -4,8 +4,10 @@ ghost use mathlib.Core.Path.{_≡_};
 ghost use mathlib.Core.Bool.{_||_};
 ghost use lib.ListN.{length};
 ghost use lib.Dec.{ltb};
-ghost use Rattle.gil.specs.Layout.{tableLength, poolLength, inputWords};
+ghost use Rattle.gil.specs.Numbers.{tableLength, poolLength};
+ghost use Rattle.gil.specs.Layout.{inputWords};
 ghost use Rattle.gil.specs.Calls.{wrongBudget, wrongBudgets, wrongInputs};
+use lent_words as words;
 
 // 1: "plain run: steps above 1,024"
 pub fn wrong_budget(steps: u32) -> bool

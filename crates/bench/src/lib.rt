@@ -15,8 +15,10 @@ pub mod tables;
 
 ghost use mathlib.Core.Path.{_≡_};
 ghost use Rattle.gil.specs.Calls.{checkCall, plainCall, exploreCall, placeCall};
-use code::CODE_WORDS;
-use programs::verdict;
+use machine_code::CODE_WORDS;
+use table_locate as locate;
+use table_plain_run as run;
+use text_programs::verdict;
 
 // check: 0 where a text is accepted, or its refusal, 3 to 8
 #[no_mangle]

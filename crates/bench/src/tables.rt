@@ -2,8 +2,9 @@
 ghost use Prim.Native.Nat.{_≤_};
 ghost use lib.ListN.{length};
 ghost use Rattle.bench.specs.Tables.{Leaves};
-use code::CODE_WORDS;
-use walk::Budgets;
+use machine_code::CODE_WORDS;
+use table_explore as walk;
+use table_explore::Budgets;
 
 // 0, or 9 or 10, which leave the needed part of both zero
 pub fn explore(

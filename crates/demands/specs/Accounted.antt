@@ -13,12 +13,13 @@ use Rattle.gil.specs.Pool.{Ref, Pool, table, valueOf, poolValues, meets, placed
 use Rattle.gil.specs.Accounts.{putIn, Stands}
 use Rattle.gil.specs.Demand3.{of-the-table}
 use Rattle.gil.specs.Theory.Tests.{no-false}
-use Rattle.gil.specs.Layout.{tableLength, poolLength, answerLength, inputsLength, tableBytes, poolBytes, answerBytes, inputWords}
+use Rattle.gil.specs.Numbers.{tableLength, poolLength, answerLength, inputsLength}
+use Rattle.gil.specs.Layout.{tableBytes, poolBytes, answerBytes, inputWords}
 use Rattle.gil.specs.Calls as Calls
 use Rattle.gil.specs.Calls.{PlainAnswer, TableAnswer}
-use Rattle.words.specs.Words.{wordAt}
-use Rattle.locate.specs.Sound.{Sound}
-use Rattle.locate.specs.Inputs.{Bytes}
+use Rattle.lent_words.specs.Words.{wordAt}
+use Rattle.table_locate.specs.Sound.{Sound}
+use Rattle.table_locate.specs.Inputs.{Bytes}
 use Rattle.demands.specs.Reasons.{ofBudgets, ofLists, ofText, ofExploring, PlainReason, ExploreReason, PlaceReason, ExploresAs}
 use Rattle.demands.specs.Refusals.{sound-table, plain-runs, explore-refuses, explore-explores, place-explores}
 use Rattle.demands.specs.Determined.{ran-as, explored-as, same-tables}

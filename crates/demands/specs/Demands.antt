@@ -15,10 +15,11 @@ use Rattle.gil.specs.Explore.{explored, exploring}
 use Rattle.gil.specs.Pool.{Ref, Pool, table, valueOf, poolValues, meets}
 use Rattle.gil.specs.Accounts.{putIn, Stands, Accounts, explorationAfter}
 use Rattle.gil.specs.Demand3.{after-every-command}
-use Rattle.gil.specs.Layout.{answerLength, inputsLength, tableBytes, poolBytes, answerBytes, inputWords}
+use Rattle.gil.specs.Numbers.{answerLength, inputsLength}
+use Rattle.gil.specs.Layout.{tableBytes, poolBytes, answerBytes, inputWords}
 use Rattle.gil.specs.Calls as Calls
 use Rattle.gil.specs.Calls.{PlainAnswer, TableAnswer}
-use Rattle.locate.specs.Inputs.{Bytes}
+use Rattle.table_locate.specs.Inputs.{Bytes}
 use Rattle.demands.specs.Reasons.{CheckReason, PlainReason, ExploreReason, PlaceReason, Zero, ARow, Refuses, Leaves, RunsAs, ExploresAs}
 use Rattle.demands.specs.Refusals.{check-refuses, plain-refuses, plain-untouched, plain-runs, explore-refuses, explore-leaves, explore-explores, place-refuses, place-leaves, place-explores}
 use Rattle.demands.specs.FromBytes.{rowsIn, stepsIn, meetsRow, putInBytes, OneRow}

@@ -14,7 +14,8 @@ use Rattle.gil.specs.Rows.{Row}
 use Rattle.gil.specs.Plain.{plainRun}
 use Rattle.gil.specs.Explore.{explored}
 use Rattle.gil.specs.Pool.{Ref, Pool, table}
-use Rattle.gil.specs.Layout.{tableLength, poolLength, answerLength, tableBytes, poolBytes, answerBytes, inputWords}
+use Rattle.gil.specs.Numbers.{tableLength, poolLength, answerLength}
+use Rattle.gil.specs.Layout.{tableBytes, poolBytes, answerBytes, inputWords}
 use Rattle.gil.specs.Calls.{PlainAnswer, TableAnswer}
 use Rattle.demands.specs.Reasons.{Zero, Refuses, Leaves, RunsAs, ExploresAs}
 

@@ -8,11 +8,12 @@ use mathlib.Core.List.{List, [], _∷_, _++_}
 use lib.ListN.{getD, take, drop, replicate}
 use lib.Dec.{ltb, eqb}
 use Rattle.gil.specs.Names.{gather}
-use Rattle.gil.specs.Layout.{answerLength, wordBytes}
+use Rattle.gil.specs.Numbers.{answerLength}
+use Rattle.gil.specs.Layout.{wordBytes}
 use Rattle.gil.specs.Calls.{PlainAnswer}
-use Rattle.words.specs.Words.{wordAt}
-use Rattle.values.specs.Packed.{if?}
-use Rattle.locate.specs.Located.{atMost, valuesTo, rowHolds}
+use Rattle.lent_words.specs.Words.{wordAt}
+use Rattle.machine_values.specs.Packed.{if?}
+use Rattle.table_locate.specs.Located.{atMost, valuesTo, rowHolds}
 
 -- the table: word 0 is the number of rows; a row's 256 words stand behind 64 bytes of heading and the rows before
 unfoldable pub rowsIn : List ℕ → ℕ

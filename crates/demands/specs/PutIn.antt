@@ -16,15 +16,15 @@ use Rattle.gil.specs.Rows.{steps, branches, Outcome, ended, cut, Row}
 use Rattle.gil.specs.Pool.{Ref, numberTerm, booleanTerm, placeIn, Pool, valueOf}
 use Rattle.gil.specs.Accounts as Accounts
 use Rattle.gil.specs.Layout.{wordBytes, rowBytes, answerBytes, room, bit, constantWords, valueWords, variableWords, cellWords, conditionWords, endWords, outcomeWords, headWords, rowWords, reasonCode, refTag, noNumber}
-use Rattle.code.specs.WellFormed as WellFormed
-use Rattle.code.specs.WellFormed.{Each}
-use Rattle.words.specs.Words.{wordAt}
-use Rattle.words.specs.Reads.{wordAt-bytes}
-use Rattle.values.specs.Packed.{truthWord}
-use Rattle.values.specs.Laws.{ConstAs, aNumber, aTruth, aLocation}
-use Rattle.locate.specs.Sound.{ValueFits, fitsNumber, fitsTruth, fitsLocation, fitsTerm, VariableFits, unbound, bound, CellFits, fitsReturned, fitsFailed, fitsVanished, fitsError, OutcomeFits, fitsEnded, fitsCut, RowFits}
-use Rattle.locate.specs.Terms.{gather-append, length-words, ValuesAs, tagOf, wordOf, two-words}
-use Rattle.locate.specs.Laws.{length-room, length-parts, length-variable, length-cell, length-condition, length-head}
+use Rattle.machine_code.specs.WellFormed as WellFormed
+use Rattle.machine_code.specs.WellFormed.{Each}
+use Rattle.lent_words.specs.Words.{wordAt}
+use Rattle.lent_words.specs.Reads.{wordAt-bytes}
+use Rattle.machine_values.specs.Packed.{truthWord}
+use Rattle.machine_values.specs.Laws.{ConstAs, aNumber, aTruth, aLocation}
+use Rattle.table_locate.specs.Sound.{ValueFits, fitsNumber, fitsTruth, fitsLocation, fitsTerm, VariableFits, unbound, bound, CellFits, fitsReturned, fitsFailed, fitsVanished, fitsError, OutcomeFits, fitsEnded, fitsCut, RowFits}
+use Rattle.table_locate.specs.Terms.{gather-append, length-words, ValuesAs, tagOf, wordOf, two-words}
+use Rattle.table_locate.specs.Laws.{length-room, length-parts, length-variable, length-cell, length-condition, length-head}
 use Rattle.demands.specs.FromBytes.{putTag, putWord, putVariables, putCells, putOutcome, putHead, putRow}
 
 -- a constant's two words, from its packed value

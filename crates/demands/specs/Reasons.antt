@@ -16,7 +16,8 @@ use Rattle.gil.specs.Plain.{plainRun}
 use Rattle.gil.specs.Explore.{Turn, finishes, explored, Exploring, exploring, turnIn}
 use Rattle.gil.specs.Pool.{Ref, Pool, pooled, table}
 use Rattle.gil.specs.Accounts.{explorationAfter}
-use Rattle.gil.specs.Layout.{tableLength, poolLength, answerLength, tableBytes, poolBytes, answerBytes, inputWords}
+use Rattle.gil.specs.Numbers.{tableLength, poolLength, answerLength}
+use Rattle.gil.specs.Layout.{tableBytes, poolBytes, answerBytes, inputWords}
 use Rattle.gil.specs.Calls as Calls
 use Rattle.gil.specs.Calls.{PlainAnswer, TableAnswer}
 

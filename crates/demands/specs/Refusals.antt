@@ -17,12 +17,13 @@ use Rattle.gil.specs.Pool.{Ref, Pool, table, placed}
 use Rattle.gil.specs.Demand3.{of-the-table}
 use Rattle.gil.specs.Theory.Tests.{no-false}
 use Rattle.gil.specs.Plain.{plainRun}
-use Rattle.gil.specs.Layout.{tableLength, poolLength, answerLength, tableBytes, poolBytes, answerBytes, inputWords}
+use Rattle.gil.specs.Numbers.{tableLength, poolLength, answerLength}
+use Rattle.gil.specs.Layout.{tableBytes, poolBytes, answerBytes, inputWords}
 use Rattle.gil.specs.Calls as Calls
 use Rattle.gil.specs.Calls.{firstOf, TableAnswer, PlainAnswer}
-use Rattle.code.specs.Accepted.{accepted-well-formed}
-use Rattle.locate.specs.Sound.{Sound}
-use Rattle.locate.specs.Exploring.{exploring-sound}
+use Rattle.machine_code.specs.Accepted.{accepted-well-formed}
+use Rattle.table_locate.specs.Sound.{Sound}
+use Rattle.table_locate.specs.Exploring.{exploring-sound}
 use Rattle.demands.specs.Rows.{stands-below}
 use Rattle.demands.specs.Reasons.{TextReason, Overrun, after, Never, Reason, ofBudgets, ofLists, ofText, ofExploring, PlainReason, ExploreReason, PlaceReason, Zero, ARow, First, Refuses, Leaves, RunsAs, ExploresAs}
 use Rattle.demands.specs.Texts.{text-range, TextOutcome, isWrong, isRight, text-outcome}

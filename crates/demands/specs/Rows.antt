@@ -13,14 +13,14 @@ use Rattle.gil.specs.Plain.{plainRun}
 use Rattle.gil.specs.Pool.{Ref, placeIn, Pool, valueOf, poolValues, meets}
 use Rattle.gil.specs.Accounts.{rowWith, putIn, Stands, here, further, Accounts}
 use Rattle.gil.specs.Layout.{wordBytes, rowWords, rowBytes, headWords, outcomeWords, room, refTag, tableBytes, poolBytes, answerBytes, inputWords}
-use Rattle.code.specs.WellFormed as WellFormed
-use Rattle.code.specs.WellFormed.{Each}
-use Rattle.words.specs.Words.{wordAt}
-use Rattle.locate.specs.Located.{atMost}
-use Rattle.locate.specs.Sound.{RowFits, Sound}
-use Rattle.locate.specs.Inputs.{Bytes}
-use Rattle.locate.specs.Terms.{ValuesAs, values-as}
-use Rattle.locate.specs.Laws.{RowAt, row-at, row-count, term-count, row-holds, length-row, length-outcome, getD-behind, all-of}
+use Rattle.machine_code.specs.WellFormed as WellFormed
+use Rattle.machine_code.specs.WellFormed.{Each}
+use Rattle.lent_words.specs.Words.{wordAt}
+use Rattle.table_locate.specs.Located.{atMost}
+use Rattle.table_locate.specs.Sound.{RowFits, Sound}
+use Rattle.table_locate.specs.Inputs.{Bytes}
+use Rattle.table_locate.specs.Terms.{ValuesAs, values-as}
+use Rattle.table_locate.specs.Laws.{RowAt, row-at, row-count, term-count, row-holds, length-row, length-outcome, getD-behind, all-of}
 use Rattle.demands.specs.FromBytes.{rowsIn, wordsAt, rowIn, stepsIn, valuesIn, meetsRow, putRow, putInBytes}
 use Rattle.demands.specs.PutIn.{row-put, answer-steps}
 

@@ -19,14 +19,15 @@ use Rattle.gil.specs.Accounts.{putEnd, putVariable, rowWith, putOutcome, putIn,
 use Rattle.gil.specs.Demand3.{after-every-command}
 use Rattle.gil.specs.Plain.{plainRun}
 use Rattle.gil.specs.Theory.Tests.{no-false, and-left, and-right}
-use Rattle.gil.specs.Layout.{tableLength, poolLength, answerLength, inputsLength, wordBytes, rowBytes, room, constantWords, valueWords, reasonCode, endWords, outcomeWords, headWords, rowWords, refTag, tableBytes, poolBytes, answerBytes, inputWords}
+use Rattle.gil.specs.Numbers.{tableLength, poolLength, answerLength, inputsLength}
+use Rattle.gil.specs.Layout.{wordBytes, rowBytes, room, constantWords, valueWords, reasonCode, endWords, outcomeWords, headWords, rowWords, refTag, tableBytes, poolBytes, answerBytes, inputWords}
 use Rattle.gil.specs.Calls as Calls
 use Rattle.gil.specs.Calls.{PlainAnswer, TableAnswer}
-use Rattle.code.specs.WellFormed.{none, more}
-use Rattle.words.specs.Words.{wordAt}
-use Rattle.locate.specs.Inputs.{Bytes}
-use Rattle.locate.specs.Sound.{Sound, RowFits, OutcomeFits, fitsEnded, fitsVanished, fitsCut}
-use Rattle.locate.specs.Laws.{RowAt, row-count}
+use Rattle.machine_code.specs.WellFormed.{none, more}
+use Rattle.lent_words.specs.Words.{wordAt}
+use Rattle.table_locate.specs.Inputs.{Bytes}
+use Rattle.table_locate.specs.Sound.{Sound, RowFits, OutcomeFits, fitsEnded, fitsVanished, fitsCut}
+use Rattle.table_locate.specs.Laws.{RowAt, row-count}
 use Rattle.demands.specs.Reasons.{CheckReason, PlainReason, ExploreReason, PlaceReason}
 use Rattle.demands.specs.Refusals.{check-refuses, plain-refuses, plain-runs, sound-table, placed-row, explore-refuses, explore-explores, place-refuses}
 use Rattle.demands.specs.Determined.{ran-as, explored-as}

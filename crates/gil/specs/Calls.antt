@@ -11,20 +11,21 @@ use Rattle.gil.specs.Explore as Explore
 use Rattle.gil.specs.Explore.{Explored, explored}
 use Rattle.gil.specs.Plain.{plainRun}
 use Rattle.gil.specs.Pool.{Pool, Ref, table, placed}
-use Rattle.gil.specs.Layout.{tableLength, poolLength, answerLength, inputsLength, tableBytes, poolBytes, answerBytes, inputWords}
+use Rattle.gil.specs.Numbers.{mostSteps, mostBranches, forBudgets, forLists, firstRow, tableLength, poolLength, answerLength, inputsLength}
+use Rattle.gil.specs.Layout.{tableBytes, poolBytes, answerBytes, inputWords}
 
 -- 1 and 2 are tested before the text
 unfoldable pub firstOf : Bool → Bool → Checked → Checked
-firstOf true wrong t = refused 1
-firstOf false true t = refused 2
+firstOf true wrong t = refused forBudgets
+firstOf false true t = refused forLists
 firstOf false false t = t
 
 -- 1: "explore/place: steps not 1 to 1,024, or branches above 16; plain run: steps above 1,024"
 unfoldable pub wrongBudgets : (budget most : ℕ) → Bool
-wrongBudgets budget most = not (leb 1 budget && leb budget 1024) || ltb 16 most
+wrongBudgets budget most = not (leb 1 budget && leb budget mostSteps) || ltb mostBranches most
 
 unfoldable pub wrongBudget : ℕ → Bool
-wrongBudget budget = ltb 1024 budget
+wrongBudget budget = ltb mostSteps budget
 
 -- 2: "a lent buffer is shorter than the call needs, or the input list is not sixteen long"
 unfoldable pub shortTables : (table pool : List ℕ) → Bool
@@ -86,7 +87,7 @@ exploreCall text budget most t w =
 
 -- place
 unfoldable pub placesIn : List ℕ → Pool → List (Row Ref) → ℕ
-placesIn inputs terms rows = 256 + placed (inputWords inputs) terms rows
+placesIn inputs terms rows = firstRow + placed (inputWords inputs) terms rows
 
 unfoldable pub placeCall : (text inputs : List ℕ) (budget most : ℕ) (table pool : List ℕ) → TableAnswer
 placeCall text inputs budget most t w =

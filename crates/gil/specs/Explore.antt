@@ -5,6 +5,7 @@ use mathlib.Core.Bool.{Bool, true, false}
 use mathlib.Core.List.{List, [], _∷_, _++_}
 use lib.ListN.{length}
 use lib.Dec.{ltb, leb}
+use Rattle.gil.specs.Numbers.{mostRows, mostTerms, forRows, forTerms}
 use Rattle.gil.specs.Names.{Program}
 use Rattle.gil.specs.Machine.{Model, State, Next, on, ends, fork, Moved, move, start}
 use Rattle.gil.specs.Rows.{Condition, Path, Row, rowOf, cutFor, ended, steps, branches}
@@ -47,7 +48,7 @@ pub data Exploring (W T : Type 0) : Type 0 where
 module _ {W T : Type 0} where
   -- 9: "a 65th row would be finished"
   unfoldable pub finish : W → List (Row T) → Row T → Explored W T
-  finish w rows r = elim (leb 64 (length rows)) [ true ↦ refused 9 | false ↦ explored w (rows ++ (r ∷ [])) ]
+  finish w rows r = elim (leb mostRows (length rows)) [ true ↦ refused forRows | false ↦ explored w (rows ++ (r ∷ [])) ]
 
   unfoldable pub waitingOn : List (Path T) → Explored W T → Exploring W T
   waitingOn qs (refused n) = stopped n
@@ -66,7 +67,7 @@ module _ {W T : Type 0} where
 module _ (M : Model) (p : Program) where
   -- 10: "a 2,049th term would be made"; "a command makes its terms before it finishes a row"
   unfoldable pub overfull : M .World → Bool
-  overfull w = ltb 2048 (M .made w)
+  overfull w = ltb mostTerms (M .made w)
 
   unfoldable pub turnIn : ℕ → Path (M .Term) → Moved M → Turn (M .Term)
   turnIn most q m = turned most q (m .next)
@@ -74,7 +75,7 @@ module _ (M : Model) (p : Program) where
   -- one command of the exploration
   unfoldable pub afterMove : ℕ → List (Row (M .Term)) → Path (M .Term) → List (Path (M .Term)) → Moved M → Exploring (M .World) (M .Term)
   afterMove most rows q qs m =
-      elim (overfull (m .world)) [ true ↦ stopped 10 | false ↦ onTurn (m .world) rows qs (turnIn most q m) ]
+      elim (overfull (m .world)) [ true ↦ stopped forTerms | false ↦ onTurn (m .world) rows qs (turnIn most q m) ]
 
   -- "Steps are tested first."
   unfoldable pub advance : (budget most : ℕ) → Exploring (M .World) (M .Term) → Exploring (M .World) (M .Term)
@@ -99,7 +100,7 @@ module _ (M : Model) (p : Program) where
       ℕ → (Path (M .Term) → Explored (M .World) (M .Term) → Explored (M .World) (M .Term))
       → Path (M .Term) → List (Row (M .Term)) → Moved M → Explored (M .World) (M .Term)
   walkMove most walk q rows m =
-      elim (overfull (m .world)) [ true ↦ refused 10 | false ↦ walkTurn walk (m .world) rows (turnIn most q m) ]
+      elim (overfull (m .world)) [ true ↦ refused forTerms | false ↦ walkTurn walk (m .world) rows (turnIn most q m) ]
 
   unfoldable pub walk : ℕ → ℕ → Path (M .Term) → Explored (M .World) (M .Term) → Explored (M .World) (M .Term)
   walk most zero q (refused n) = refused n

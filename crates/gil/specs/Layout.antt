@@ -5,25 +5,13 @@ use mathlib.Core.Bool.{Bool, true, false}
 use mathlib.Core.List.{List, [], _∷_, _++_}
 use mathlib.Core.Option.{Option, none, some}
 use lib.ListN.{length, replicate}
+use Rattle.gil.specs.Numbers.{tableLength, poolLength, asReturned, asFailed, asVanished, asError, asCut, forSteps, forBranches, numberTag, booleanTag, locationTag, numberTermTag, booleanTermTag, inputKind, notKind, plusKind, minusKind, equalKind, lessKind, andKind, orKind}
 use Rattle.gil.specs.Tree.{Op, plus, minus, equal, less, and, or}
 use Rattle.gil.specs.Names.{gather}
 use Rattle.gil.specs.Values.{Constant, number, boolean, location, Value, const, term, Node, input, neg, bin}
 use Rattle.gil.specs.Machine.{Cell, End, returned, failed, vanished, error}
 use Rattle.gil.specs.Rows.{Condition, Reason, steps, branches, Outcome, ended, cut, Row}
 use Rattle.gil.specs.Pool.{Ref, numberTerm, booleanTerm, placeIn, Pool}
-
--- the lengths needed, in bytes
-abbrev pub tableLength : ℕ
-tableLength = 65600
-
-abbrev pub poolLength : ℕ
-poolLength = 40960
-
-abbrev pub answerLength : ℕ
-answerLength = 1024
-
-abbrev pub inputsLength : ℕ
-inputsLength = 64
 
 unfoldable pub wordBytes : ℕ → List ℕ
 wordBytes n = n % 256 ∷ n / 256 % 256 ∷ n / 65536 % 256 ∷ n / 16777216 % 256 ∷ []
@@ -38,13 +26,13 @@ bit false = 0
 
 -- a constant: its tag and its word
 unfoldable pub constantWords : Constant → List ℕ
-constantWords (number n) = 1 ∷ n ∷ []
-constantWords (boolean b) = 2 ∷ bit b ∷ []
-constantWords (location l) = 3 ∷ l ∷ []
+constantWords (number n) = numberTag ∷ n ∷ []
+constantWords (boolean b) = booleanTag ∷ bit b ∷ []
+constantWords (location l) = locationTag ∷ l ∷ []
 
 unfoldable pub reasonCode : Reason → ℕ
-reasonCode steps = 1
-reasonCode branches = 2
+reasonCode steps = forSteps
+reasonCode branches = forBranches
 
 -- over any kind of term, given its tag and its place
 module _ {T : Type 0} (tag place : T → ℕ) where
@@ -65,14 +53,14 @@ module _ {T : Type 0} (tag place : T → ℕ) where
 
   -- the outcome and its value, error number or reason
   unfoldable pub endWords : End T → List ℕ
-  endWords (returned v) = 1 ∷ valueWords v
-  endWords (failed v) = 2 ∷ valueWords v
-  endWords vanished = 3 ∷ 0 ∷ 0 ∷ []
-  endWords (error n) = 4 ∷ 0 ∷ n ∷ []
+  endWords (returned v) = asReturned ∷ valueWords v
+  endWords (failed v) = asFailed ∷ valueWords v
+  endWords vanished = asVanished ∷ 0 ∷ 0 ∷ []
+  endWords (error n) = asError ∷ 0 ∷ n ∷ []
 
   unfoldable pub outcomeWords : Outcome T → List ℕ
   outcomeWords (ended e) = endWords e
-  outcomeWords (cut why) = 5 ∷ 0 ∷ reasonCode why ∷ []
+  outcomeWords (cut why) = asCut ∷ 0 ∷ reasonCode why ∷ []
 
   -- words 0 to 15 of a row
   unfoldable pub headWords : Row T → List ℕ
@@ -95,21 +83,21 @@ module _ {T : Type 0} (tag place : T → ℕ) where
 
 -- a row of the table, whose terms are in the pool, and the plain run's answer, which has no terms
 unfoldable pub refTag : Ref → ℕ
-refTag (numberTerm k) = 4
-refTag (booleanTerm k) = 5
+refTag (numberTerm k) = numberTermTag
+refTag (booleanTerm k) = booleanTermTag
 
 unfoldable pub opCode : Op → ℕ
-opCode plus = 3
-opCode minus = 4
-opCode equal = 5
-opCode less = 6
-opCode and = 7
-opCode or = 8
+opCode plus = plusKind
+opCode minus = minusKind
+opCode equal = equalKind
+opCode less = lessKind
+opCode and = andKind
+opCode or = orKind
 
 -- a term's five words: its kind and two operands
 unfoldable pub nodeWords : Node Ref → List ℕ
-nodeWords (input k) = 1 ∷ (constantWords (number k) ++ (0 ∷ 0 ∷ []))
-nodeWords (neg a) = 2 ∷ (valueWords refTag placeIn a ++ (0 ∷ 0 ∷ []))
+nodeWords (input k) = inputKind ∷ (constantWords (number k) ++ (0 ∷ 0 ∷ []))
+nodeWords (neg a) = notKind ∷ (valueWords refTag placeIn a ++ (0 ∷ 0 ∷ []))
 nodeWords (bin o a b) = opCode o ∷ (valueWords refTag placeIn a ++ valueWords refTag placeIn b)
 
 unfoldable pub nodeBytes : Node Ref → List ℕ

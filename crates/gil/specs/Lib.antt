@@ -1,3 +1,4 @@
+pub mod Numbers
 pub mod Text
 pub mod Tree
 pub mod Reading

@@ -6,6 +6,7 @@ use mathlib.Core.List.{List, [], _∷_}
 use mathlib.Core.Option.{Option, none, some}
 use lib.ListN.{length, getD, set, replicate}
 use lib.Dec.{ltb, leb, eqb}
+use Rattle.gil.specs.Numbers.{notBound, wrongSort, noSuchCell, ninthFrame, seventeenthInput, seventeenthLocation, thirtyThirdCell, mostFrames, mostInputs, mostLocations, mostCells}
 use Rattle.gil.specs.Tree.{Op, Expr, num, bool, var, neg, bin, Cmd, assign, ifgoto, call, lookup, mutate, dispose, uSym, iSym, return, fail, vanish}
 use Rattle.gil.specs.Names.{Procedure, Program}
 use Rattle.gil.specs.Values.{Constant, number, boolean, location, Sort, numbers, booleans, locations, sortOf, sameSort, Fit, right, wrong, unlike, fit, work, workNot, Value, const, term, Node}
@@ -246,7 +247,7 @@ module _ (M : Model) where
   -- "or if it is `=` on two sorts, which is the constant false"
   unfoldable pub fitted : Fit → Op → Val M → Val M → Act M (Val M)
   fitted right o a b = combine o a b
-  fitted wrong o a b = stop 2
+  fitted wrong o a b = stop wrongSort
   fitted unlike o a b = give (const (boolean false))
 
   unfoldable pub operate : Op → Val M → Val M → Act M (Val M)
@@ -258,14 +259,14 @@ module _ (M : Model) where
 
   unfoldable pub negate : Val M → Act M (Val M)
   negate a = do
-    must (sameSort booleans (sortIn a)) 2
+    must (sameSort booleans (sortIn a)) wrongSort
     negated a
 
   -- "Both operands are always evaluated, left first, and only then are their sorts tested."
   unfoldable pub eval : Store (M .Term) → Expr ℕ → Act M (Val M)
   eval ρ (num n) = give (const (number n))
   eval ρ (bool b) = give (const (boolean b))
-  eval ρ (var x) = there (getD ρ x none) 1
+  eval ρ (var x) = there (getD ρ x none) notBound
   eval ρ (neg e) = do
     a ← eval ρ e
     negate a
@@ -276,18 +277,18 @@ module _ (M : Model) where
 
   -- "an action's first operand a location"
   unfoldable pub theLocation : Val M → Act M ℕ
-  theLocation (const (number n)) = stop 2
-  theLocation (const (boolean b)) = stop 2
+  theLocation (const (number n)) = stop wrongSort
+  theLocation (const (boolean b)) = stop wrongSort
   theLocation (const (location l)) = give l
-  theLocation (term t) = stop 2
+  theLocation (term t) = stop wrongSort
 
   -- "`ifgoto` on true goes to n, on false to the next command"; "a number term is error 2"
   unfoldable pub jump : ℕ → State (M .Term) → Val M → Act M (Next (M .Term))
-  jump n s (const (number k)) = stop 2
+  jump n s (const (number k)) = stop wrongSort
   jump n s (const (boolean true)) = give (on (steer (goto n) s))
   jump n s (const (boolean false)) = give (on (steer onward s))
-  jump n s (const (location l)) = stop 2
-  jump n s (term t) = must (sameSort booleans (M .sort t)) 2 >> give (fork t (steer (goto n) s) (steer onward s))
+  jump n s (const (location l)) = stop wrongSort
+  jump n s (term t) = must (sameSort booleans (M .sort t)) wrongSort >> give (fork t (steer (goto n) s) (steer onward s))
 
   unfoldable pub exec : Program → State (M .Term) → Cmd ℕ → Act M (Next (M .Term))
   exec p s (assign x e) = do
@@ -298,28 +299,28 @@ module _ (M : Model) where
     jump n s v
   exec p s (call x f e) = do
     v ← eval (s .variables) e
-    must (ltb (frames (s .control)) 8) 4
+    must (ltb (frames (s .control)) mostFrames) ninthFrame
     give (on (opened p x f v s))
   exec p s (lookup x e q) = do
     v ← eval (s .variables) e
     l ← theLocation v
-    u ← there (cellAt l q (s .cells)) 3
+    u ← there (cellAt l q (s .cells)) noSuchCell
     give (on (assigned x u s))
   exec p s (mutate x e q d) = do
     v ← eval (s .variables) e
     u ← eval (s .variables) d
     l ← theLocation v
-    must (leb (length (putCell l q u (s .cells))) 32) 7
+    must (leb (length (putCell l q u (s .cells))) mostCells) thirtyThirdCell
     give (on (assigned x (const (boolean true)) (withCells (putCell l q u (s .cells)) s)))
   exec p s (dispose x e) = do
     v ← eval (s .variables) e
     l ← theLocation v
     give (on (assigned x (const (boolean true)) (withCells (withoutCells l (s .cells)) s)))
   exec p s (uSym x j) = do
-    must (ltb (s .control .locations) 16) 6
+    must (ltb (s .control .locations) mostLocations) seventeenthLocation
     give (on (assigned x (const (location (s .control .locations))) (steer withLocation s)))
   exec p s (iSym x j) = do
-    must (ltb (s .control .inputs) 16) 5
+    must (ltb (s .control .inputs) mostInputs) seventeenthInput
     v ← making (Values.input (s .control .inputs))
     give (on (assigned x v (steer withInput s)))
   exec p s (return e) = do

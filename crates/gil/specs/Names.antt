@@ -6,6 +6,7 @@ use mathlib.Core.List.{List, [], _∷_, _++_, map}
 use lib.ListN.{length}
 use lib.Dec.{ltb, leb}
 use Rattle.gil.specs.Text.{bytes, same}
+use Rattle.gil.specs.Numbers.{mostBytes, mostProcedures, mostCommands, mostVariables, mostProperties, forLength, forForm, forLimits, forNames, forJump, forEnd}
 use Rattle.gil.specs.Tree.{Expr, num, bool, var, neg, bin, Cmd, assign, ifgoto, call, lookup, mutate, dispose, uSym, iSym, return, fail, vanish, Proc, Name}
 use Rattle.gil.specs.Reading.{Read, faulty, read, procedures}
 
@@ -98,10 +99,10 @@ procNames ps = map (λ p. p .name) ps
 -- 5: "over 16 procedures, 512 commands in all, 16 variables in a procedure (parameter included), or 32 distinct properties"
 unfoldable pub overLimits : List (Proc Name) → Bool
 overLimits ps =
-    ltb 16 (length ps)
-    || ltb 512 (length (gather (λ p. p .body) ps))
-    || any (λ p. ltb 16 (length (procVars p))) ps
-    || ltb 32 (length (properties ps))
+    ltb mostProcedures (length ps)
+    || ltb mostCommands (length (gather (λ p. p .body) ps))
+    || any (λ p. ltb mostVariables (length (procVars p))) ps
+    || ltb mostProperties (length (properties ps))
 
 -- 6: "two procedures of one name, a call of a procedure that is not there, or no `main`"
 unfoldable pub repeated : List Name → Bool
@@ -208,14 +209,14 @@ refusedIf true n t = refused n
 refusedIf false n t = t
 
 unfoldable pub tested : Read (List (Proc Name)) → Checked
-tested faulty = refused 4
+tested faulty = refused forForm
 tested (read ps next) =
-    refusedIf (overLimits ps) 5
-    (refusedIf (wrongNames ps) 6
-    (refusedIf (wrongJump ps) 7
-    (refusedIf (wrongEnd ps) 8
+    refusedIf (overLimits ps) forLimits
+    (refusedIf (wrongNames ps) forNames
+    (refusedIf (wrongJump ps) forJump
+    (refusedIf (wrongEnd ps) forEnd
     (accepted (numberProgram ps)))))
 
 -- 3: "text longer than 16,384 bytes"
 unfoldable pub checkText : List ℕ → Checked
-checkText s = elim (ltb 16384 (length s)) [ true ↦ refused 3 | false ↦ tested (procedures s) ]
+checkText s = elim (ltb mostBytes (length s)) [ true ↦ refused forLength | false ↦ tested (procedures s) ]

@@ -8,6 +8,7 @@ use lib.ListN.{length, getD}
 use lib.Dec.{ltb, leb}
 use Rattle.gil.specs.Text.{bytes}
 use Rattle.gil.specs.Tree.{Op, plus, minus, equal, less, and, or}
+use Rattle.gil.specs.Numbers.{mostSteps, mostBranches}
 use Rattle.gil.specs.Names.{Program, Checked, refused, accepted, checkText}
 use Rattle.gil.specs.Values.{Constant, number, boolean, location, Value, const, term, Node, input, neg, bin}
 use Rattle.gil.specs.Machine.{procedureAt, End, returned, failed, vanished, error}
@@ -139,7 +140,7 @@ exploredText p (explored w rows) = heading ++ rowLines p (poolTexts w) 0 rows
 
 unfoldable pub checkedText : Checked → List ℕ
 checkedText (refused n) = refusalLine n
-checkedText (accepted p) = exploredText p (table p 1024 16)
+checkedText (accepted p) = exploredText p (table p mostSteps mostBranches)
 
 -- what the program prints for a text
 unfoldable pub printed : List ℕ → List ℕ

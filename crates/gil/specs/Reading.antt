@@ -5,6 +5,7 @@ use mathlib.Core.Bool.{Bool, true, false}
 use mathlib.Core.List.{List, [], _∷_}
 use lib.ListN.{length}
 use lib.Dec.{eqb}
+use Rattle.gil.specs.Numbers.{mostDepth}
 use Rattle.gil.specs.Text.{Token, word, property, becomes, mark, ended, Lexeme, lexeme, Word, name, number, key, uSite, iSite, fault, wordOf, Key, kIfgoto, kReturn, kFail, kVanish, kTrue, kFalse, kNot, kAnd, kOr, kLookup, kMutate, kDispose}
 use Rattle.gil.specs.Tree.{Op, plus, minus, equal, less, and, or, Expr, num, bool, var, neg, bin, Cmd, assign, ifgoto, call, lookup, mutate, dispose, uSym, iSym, return, fail, vanish, Proc, Name}
 
@@ -208,7 +209,7 @@ exprDeep (suc d) s at = (token >>= exprFrom (exprDeep d)) s at
 
 -- "An expression is at most eight deep; a deeper one is a syntax fault"
 unfoldable pub expr : Reader (Expr Name)
-expr = exprDeep 8
+expr = exprDeep mostDepth
 
 -- what follows `v :=`
 unfoldable pub assignment : Name → Reader (Cmd Name)

@@ -8,6 +8,7 @@ use mathlib.Core.List.{List, [], _∷_}
 use mathlib.Core.Option.{Option, none, some}
 use lib.ListN.{length, take, drop}
 use lib.Dec.{leb, eqb}
+use Rattle.gil.specs.Numbers.{mostCharacters, largestNumber, largestSite}
 
 -- the bytes of an ASCII text
 unfoldable pub bytes : String → List ℕ
@@ -58,7 +59,7 @@ pub record Lexeme : Type 0 where
 unfoldable pub quoted : List ℕ → ℕ → ℕ → List ℕ → Lexeme
 quoted s i n [] = record { token = mark 34; next = suc i }
 quoted s i n (b ∷ after) =
-    elim (eqb b 34 && within 1 16 n) [
+    elim (eqb b 34 && within 1 mostCharacters n) [
       | true ↦ record { token = property (part s (suc i) n); next = suc (suc (i + n)) }
       | false ↦ record { token = mark 34; next = suc i }
     ]
@@ -168,8 +169,8 @@ numbered (some n) f = f n
 unfoldable pub symbol : List ℕ → Word
 symbol w =
     elim (same (take 5 w) uSymPrefix) [
-      | true ↦ numbered (numeral 255 (drop 5 w)) uSite
-      | false ↦ elim (same (take 5 w) iSymPrefix) [ true ↦ numbered (numeral 255 (drop 5 w)) iSite | false ↦ name w ]
+      | true ↦ numbered (numeral largestSite (drop 5 w)) uSite
+      | false ↦ elim (same (take 5 w) iSymPrefix) [ true ↦ numbered (numeral largestSite (drop 5 w)) iSite | false ↦ name w ]
     ]
 
 unfoldable pub identified : List ℕ → Option Key → Word
@@ -178,7 +179,7 @@ identified w (some k) = key k
 
 -- "An identifier starts with a letter and has 1 to 16 characters"
 unfoldable pub identifier : List ℕ → Word
-identifier w = elim (leb (length w) 16) [ true ↦ identified w (find w reservedWords) | false ↦ fault ]
+identifier w = elim (leb (length w) mostCharacters) [ true ↦ identified w (find w reservedWords) | false ↦ fault ]
 
 -- what a run of characters is, by its first
 unfoldable pub wordOf : List ℕ → Word
@@ -186,5 +187,5 @@ wordOf [] = fault
 wordOf (b ∷ w) =
     elim (letter b) [
       | true ↦ identifier (b ∷ w)
-      | false ↦ numbered (numeral 4294967295 (b ∷ w)) number
+      | false ↦ numbered (numeral largestNumber (b ∷ w)) number
     ]

@@ -4,6 +4,7 @@ use crate::bytes::named;
 use crate::bytes::number;
 use crate::bytes::text;
 use crate::bytes::zero;
+use lent_words as words;
 
 // Word k of the row.
 pub fn word(b: &[u8], at: u32, k: u32) -> u32 {

@@ -5,7 +5,7 @@ use Rattle.bench.proofs.chomphurek_check.Statement.{statement}
 use Rattle.bench.proofs.chomphurek_check.Tie as tie
 use Rattle.bench.proofs.chomphurek_check.Reads as reads
 use Rattle.bench.proofs.chomphurek_check.Lts as lts
-use Rattle.programs.proofs.verdict.read_program.Reads as read-program-reads
+use Rattle.text_programs.proofs.verdict.read_program.Reads as read-program-reads
 
 -- src/lib.rt:12:5
 read-program-requires : tie.Need-read-program-requires

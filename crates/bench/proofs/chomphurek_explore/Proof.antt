@@ -8,7 +8,7 @@ use Rattle.bench.proofs.chomphurek_explore.Reads as reads
 use Rattle.bench.proofs.chomphurek_explore.Lts as lts
 use Rattle.bench.proofs.given.short_tables.Reads as short-tables-reads
 use Rattle.bench.proofs.given.wrong_budgets.Reads as wrong-budgets-reads
-use Rattle.programs.proofs.verdict.read_program.Reads as read-program-reads
+use Rattle.text_programs.proofs.verdict.read_program.Reads as read-program-reads
 use Rattle.bench.proofs.tables.explore.Reads as explore-reads
 
 -- src/lib.rt:49:8

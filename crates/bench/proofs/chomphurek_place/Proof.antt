@@ -10,9 +10,9 @@ use Rattle.bench.proofs.chomphurek_place.Lts as lts
 use Rattle.bench.proofs.given.short_tables.Reads as short-tables-reads
 use Rattle.bench.proofs.given.wrong_budgets.Reads as wrong-budgets-reads
 use Rattle.bench.proofs.given.wrong_inputs.Reads as wrong-inputs-reads
-use Rattle.programs.proofs.verdict.read_program.Reads as read-program-reads
+use Rattle.text_programs.proofs.verdict.read_program.Reads as read-program-reads
 use Rattle.bench.proofs.tables.explore.Reads as explore-reads
-use Rattle.locate.proofs.locate.Reads as locate-reads
+use Rattle.table_locate.proofs.locate.Reads as locate-reads
 
 -- src/lib.rt:68:8
 wrong-budgets-requires : tie.Need-wrong-budgets-requires

@@ -11,8 +11,8 @@ use Rattle.bench.proofs.chomphurek_plain_run.Lts as lts
 use Rattle.bench.proofs.given.input_words.Reads as input-words-reads
 use Rattle.bench.proofs.given.wrong_budget.Reads as wrong-budget-reads
 use Rattle.bench.proofs.given.wrong_inputs.Reads as wrong-inputs-reads
-use Rattle.programs.proofs.verdict.read_program.Reads as read-program-reads
-use Rattle.run.proofs.run.Reads as run-reads
+use Rattle.text_programs.proofs.verdict.read_program.Reads as read-program-reads
+use Rattle.table_plain_run.proofs.run.Reads as run-reads
 
 -- src/lib.rt:24:8
 wrong-budget-requires : tie.Need-wrong-budget-requires

@@ -10,7 +10,7 @@ use Rattle.bench.proofs.given.input_words.Statement.{statement}
 use Rattle.bench.proofs.given.input_words.Tie as tie
 use Rattle.bench.proofs.given.input_words.Reads as reads
 use Rattle.bench.proofs.given.input_words.Lts as lts
-use Rattle.words.proofs.word_at.Reads as word-at-reads
+use Rattle.lent_words.proofs.word_at.Reads as word-at-reads
 
 abbrev Inv-loop : tie.InvT-loop
 Inv-loop inputs out₀ i₀ out i = (i ≤ 16) × (length out ≡ 16) × (take i out ≡ take i (inputWords inputs))

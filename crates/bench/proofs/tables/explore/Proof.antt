@@ -7,7 +7,7 @@ use Rattle.bench.proofs.tables.explore.Statement.{statement}
 use Rattle.bench.proofs.tables.explore.Tie as tie
 use Rattle.bench.proofs.tables.explore.Reads as reads
 use Rattle.bench.proofs.tables.explore.Lts as lts
-use Rattle.walk.proofs.explore.Reads as explore-reads
+use Rattle.table_explore.proofs.explore.Reads as explore-reads
 
 -- src/tables.rt:14:54
 slice-relend-prefix-explore : tie.Need-slice-relend-prefix-explore

@@ -1,0 +1,29 @@
+-- `path::code_word` meets its contract. Assumes nothing.
+use borrow.Author.Tests.{lt-ltb, le-ltb}
+use Rattle.machine_commands.specs.Stepped.{codeWord}
+use borrow.Author.Needs.{needs}
+use Rattle.table_path.proofs.code_word.Statement.{statement}
+use Rattle.table_path.proofs.code_word.Tie as tie
+use Rattle.table_path.proofs.code_word.Reads as reads
+use Rattle.table_path.proofs.code_word.Lts as lts
+
+-- src/lib.rt:205:26
+mul-result : tie.Need-mul-result
+mul-result c = search needs
+
+-- src/lib.rt:205:26
+element-copy-out-result : tie.Need-element-copy-out-result
+element-copy-out-result c = search needs
+
+-- src/lib.rt:202:1
+returns : tie.Need-returns
+unfolding codeWord
+returns c = simp (lt-ltb _ _ (c .before .if1 .taken))
+
+-- src/lib.rt:202:1
+returns-2 : tie.Need-returns-2
+unfolding codeWord
+returns-2 c = simp (le-ltb _ _ (c .if1 .left))
+
+pub code-word-spec : {M : Type 1} → statement M
+code-word-spec = tie.close (tie.spec mul-result element-copy-out-result returns returns-2)

@@ -1,0 +1,34 @@
+-- `reader::commands::dispose_of` meets its contract. Assumes nothing.
+use Rattle.text_commands.specs.Commands.{dispose-goes}
+use Rattle.text_commands.specs.Effects.{sets-dispose}
+use mathlib.Core.Path.{refl}
+use borrow.Author.Needs.{needs}
+use Rattle.text_commands.proofs.commands.dispose_of.Statement.{statement}
+use Rattle.text_commands.proofs.commands.dispose_of.Tie as tie
+use Rattle.text_commands.proofs.commands.dispose_of.Reads as reads
+use Rattle.text_commands.proofs.commands.dispose_of.Lts as lts
+use Rattle.text_commands.proofs.exprs.expr.Reads as expr-reads
+use Rattle.text_commands.proofs.forms.mark.Reads as mark-reads
+
+-- src/commands.rt:151:9
+mark-requires : tie.Need-mark-requires
+mark-requires c κs = search needs
+
+-- src/commands.rt:152:9
+expr-requires : tie.Need-expr-requires
+expr-requires c κs = search needs
+
+-- src/commands.rt:154:15
+mark-requires-2 : tie.Need-mark-requires-2
+mark-requires-2 c κs = search needs
+
+-- src/commands.rt:157:16
+cast-t11 : tie.Need-cast-t11
+cast-t11 c = search needs
+
+-- src/commands.rt:141:1
+returns : tie.Need-returns
+returns c = (λ v p k. dispose-goes v (λ e q. sets-dispose q refl) (c .before .before .before .before .mark .ensures) (c .before .expr .ensures .0) (c .mark2 .ensures), c .before .expr .ensures .1)
+
+pub dispose-of-spec : {M : Type 1} → statement M
+dispose-of-spec = tie.close (tie.spec mark-requires expr-requires mark-requires-2 cast-t11 returns)
