@@ -1,17 +1,17 @@
-#!/usr/bin/env python3
 """The vectors of check: both sides of every limit and every rule of the text, and texts for which several refusals hold.
 
-Writes crates/check_vectors/data/, args and stdout. Each answer was worked out by hand from document 01 and the shared readings,
+tests/vectors.py writes them. Each answer was worked out by hand from document 01 and the shared readings,
 and not by running check.
 """
-import os
 
-here = os.path.join(os.path.dirname(os.path.abspath(__file__)), '..', 'crates', 'check_vectors')
+files = {}
 vectors = []
 
 
 def text(name, answer, body):
-    vectors.append((name, answer, body if isinstance(body, bytes) else body.encode('latin-1')))
+    assert name not in files, name
+    files[name] = body if isinstance(body, bytes) else body.encode('latin-1')
+    vectors.append((['check', name], str(answer), []))
 
 
 def main(name, answer, commands):
@@ -188,12 +188,3 @@ text('6-before-7', 6, 'f(x){ ifgoto true 9; vanish; }')
 text('6-before-8', 6, 'f(x){ a := 1; }')
 text('6-before-7-and-8', 6, 'main(x){ ifgoto true 9; a := g(x); }')
 text('7-before-8', 7, 'main(x){ a := 1; } f(x){ ifgoto true 9; vanish; }')
-
-os.makedirs(os.path.join(here, 'data'), exist_ok=True)
-for name, answer, body in vectors:
-    with open(os.path.join(here, 'data', name), 'wb') as f:
-        f.write(body)
-with open(os.path.join(here, 'args'), 'w') as f:
-    f.write(''.join(name + '\n' for name, _, _ in vectors))
-with open(os.path.join(here, 'stdout'), 'w') as f:
-    f.write(''.join('%s %d\n' % (name, answer) for name, answer, _ in vectors))

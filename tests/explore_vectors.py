@@ -1,18 +1,14 @@
-#!/usr/bin/env python3
 """The vectors of explore and place: document 01's examples 1, 3, 4, 9 to 12, both sides of refusals 9 and 10, budgets, frames and cells
 under forks, and the row that inputs fall in.
 
-Writes crates/explore_vectors/data/, args and stdout. Each line was worked out by hand from document 01 and the shared readings (R n), and
+tests/vectors.py writes them. Each line was worked out by hand from document 01 and the shared readings (R n), and
 not by running explore. Values, positions and cells are as in tests/plain_vectors.py; nT is the number term T of the pool and bT the boolean
 term T; a condition is a term and the truth it must have; a term is its operator and its operands, with ! & | for not, and, or, and # with its number for an input. Where a formula
 stands, the reason stands beside it. Of more than 20 rows, and of more than 40 terms, the first two and the last two are shown.
 """
-import os
 
-here = os.path.join(os.path.dirname(os.path.abspath(__file__)), '..', 'crates', 'explore_vectors')
 files = {}
-arguments = []
-lines = []
+vectors = []
 
 
 def save(name, content):
@@ -31,9 +27,9 @@ def listed(inputs):
 
 
 def call(name, text, inputs, budget, lent, answer):
-    given = [save(name, text.encode()), listed(inputs)] + [str(n) for n in budget + lent]
-    arguments.extend(given)
-    lines.append(' '.join(given) + ' = ' + answer)
+    which = 'explore' if inputs is None else 'place'
+    given = [which, save(name, text.encode()), listed(inputs)] + [str(n) for n in budget + lent]
+    vectors.append((given, '= ' + answer, []))
 
 
 def counted(what, items):
@@ -49,7 +45,7 @@ def row(end, at, steps, read, conditions, variables, cells=''):
 def shown(what, items, most):
     for k, item in enumerate(items):
         if len(items) <= most or k < 2 or k >= len(items) - 2:
-            lines.append('  %s %d: %s' % (what, k, item))
+            vectors[-1][2].append('  %s %d: %s' % (what, k, item))
 
 
 def text(name, text, rows, terms, budget=(1024, 16), lent=(65600, 40960), place=()):
@@ -307,12 +303,3 @@ refused('bytes-16385-faulty', 2, '}' + long[1:], inputs=63)
 refused('bytes-16385-faulty', 3, '}' + long[1:], inputs=())
 # on the right side, with buffers longer than needed
 text('small', small, [row('vanished -', '0.0', 1, 0, '', '0')], [], budget=(1, 0), lent=(65664, 41024), place=(((), 0),))
-
-os.makedirs(os.path.join(here, 'data'), exist_ok=True)
-for name, content in files.items():
-    with open(os.path.join(here, 'data', name), 'wb') as f:
-        f.write(content)
-with open(os.path.join(here, 'args'), 'w') as f:
-    f.write(''.join(word + '\n' for word in arguments))
-with open(os.path.join(here, 'stdout'), 'w') as f:
-    f.write(''.join(line + '\n' for line in lines))

@@ -1,17 +1,13 @@
-#!/usr/bin/env python3
 """The vectors of the plain run: document 01's examples, both sides of each error's limit, budgets, refusals.
 
-Writes crates/plain_vectors/data/, args and stdout. Each line was worked out by hand from document 01 and the shared readings (R n), and
+tests/vectors.py writes them. Each line was worked out by hand from document 01 and the shared readings (R n), and
 not by running the plain run. A position is procedure.command; a value is a number, true, false, a location $k, or - for a variable not
 bound; a cell is $location.property=value, a property numbered by its first place in the text. Variables stand in order of first appearance,
 the parameter first, a target before its expression. What is said of steps counts the commands executed, the last one too.
 """
-import os
 
-here = os.path.join(os.path.dirname(os.path.abspath(__file__)), '..', 'crates', 'plain_vectors')
 files = {}
-arguments = []
-lines = []
+vectors = []
 
 
 def save(name, content):
@@ -28,9 +24,8 @@ def listed(inputs):
 
 
 def call(name, text, inputs, steps, length, answer):
-    given = [save(name, text if isinstance(text, bytes) else text.encode()), listed(inputs), str(steps), str(length)]
-    arguments.extend(given)
-    lines.append(' '.join(given) + ' = ' + answer)
+    given = ['run', save(name, text if isinstance(text, bytes) else text.encode()), listed(inputs), str(steps), str(length)]
+    vectors.append((given, '= ' + answer, []))
 
 
 def counted(what, items):
@@ -231,12 +226,3 @@ refused('bytes-16385-faulty', 3, '}' + long[1:])
 refused('doc-12-empty', 2, '', length=1023)
 # on the right side: the longest text, the longest budget, and a buffer longer than needed, whose surplus is kept
 text('bytes-16384', long[:-1], 'vanished -', '0.0', 1, '0', length=2048)
-
-os.makedirs(os.path.join(here, 'data'), exist_ok=True)
-for name, content in files.items():
-    with open(os.path.join(here, 'data', name), 'wb') as f:
-        f.write(content)
-with open(os.path.join(here, 'args'), 'w') as f:
-    f.write(''.join(word + '\n' for word in arguments))
-with open(os.path.join(here, 'stdout'), 'w') as f:
-    f.write(''.join(line + '\n' for line in lines))

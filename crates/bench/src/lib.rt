@@ -1,5 +1,6 @@
-// The calls that C sees. Each promise cites the definitions of document 01 alone (crates/gil/specs/Calls.antt), and asks nothing. A call
-// tests what it was given "in the order tested", and writes nothing before its last test. What each number refuses, in document 01's words:
+// The calls that C sees: each is the call of its name in a crate of its own, and has its contract. A promise cites document 01's definitions
+// alone (crates/gil/specs/Promises.antt, Calls.antt), and asks nothing. A call tests what it was given "in the order tested", and writes nothing
+// before its last test. What each number refuses, in document 01's words:
 //   1   "explore/place: steps not 1 to 1,024, or branches above 16; plain run: steps above 1,024"
 //   2   "a lent buffer is shorter than the call needs, or the input list is not sixteen long"
 //   3   "text longer than 16,384 bytes"
@@ -10,24 +11,14 @@
 //   8   "a procedure whose last command is not return, fail or vanish"
 //   9   "a 65th row would be finished"
 //   10  "a 2,049th term would be made"
-pub mod given;
-pub mod tables;
-
-ghost use mathlib.Core.Path.{_≡_};
-ghost use Rattle.gil.specs.Calls.{checkCall, plainCall, exploreCall, placeCall};
-use machine_code::CODE_WORDS;
-use table_locate as locate;
-use table_plain_run as run;
-use text_programs::verdict;
+ghost use Rattle.gil.specs.Promises.{Promise, check, plainRun, explore, place};
 
 // check: 0 where a text is accepted, or its refusal, 3 to 8
 #[no_mangle]
 pub extern "C" fn chomphurek_check(text: &[u8]) -> u32
-    ensures { λ r. ⌜ r ≡ checkCall (now (text .entry)) ⌝ }
+    ensures { λ r. ⌜ Promise (check (now (text .entry))) r ⌝ }
 {
-    let mut code = [0u32; CODE_WORDS];
-    let mut names = [0u32; 33];
-    verdict::read_program(text, &mut code, &mut names)
+    call_check::check(text)
 }
 
 // plain run: 0, and the answer's first 1,024 bytes are those of the run on the sixteen inputs; or 1 to 8, and the answer is untouched
@@ -38,26 +29,9 @@ pub extern "C" fn chomphurek_plain_run(
     steps: u32,
     answer: &mut [u8],
 ) -> u32
-    ensures { λ r. ⌜ record { returns = r; answer = now (answer .exit) } ≡ plainCall (now (text .entry)) (now (inputs .entry)) steps (now (answer .entry)) ⌝ }
+    ensures { λ r. ⌜ Promise (plainRun (now (text .entry)) (now (inputs .entry)) steps (now (answer .entry))) (record { returns = r; answer = now (answer .exit) }) ⌝ }
 {
-    if given::wrong_budget(steps) {
-        return 1;
-    }
-    if given::wrong_inputs(inputs) {
-        return 2;
-    }
-    if answer.len() < 1024 {
-        return 2;
-    }
-    let mut code = [0u32; CODE_WORDS];
-    let mut names = [0u32; 33];
-    let refusal = verdict::read_program(text, &mut code, &mut names);
-    if refusal != 0 {
-        return refusal;
-    }
-    let words = given::input_words(inputs);
-    run::run(&code, &words, steps, answer);
-    0
+    call_plain_run::plain_run(text, inputs, steps, answer)
 }
 
 // explore: 0, and table and pool hold the rows and their terms; 1 to 8, and both are untouched; or 9 or 10, and the needed part of both
@@ -70,21 +44,9 @@ pub extern "C" fn chomphurek_explore(
     table: &mut [u8],
     pool: &mut [u8],
 ) -> u32
-    ensures { λ r. ⌜ record { returns = r; table = now (table .exit); pool = now (pool .exit) } ≡ exploreCall (now (text .entry)) steps branches (now (table .entry)) (now (pool .entry)) ⌝ }
+    ensures { λ r. ⌜ Promise (explore (now (text .entry)) steps branches (now (table .entry)) (now (pool .entry))) (record { returns = r; table = now (table .exit); pool = now (pool .exit) }) ⌝ }
 {
-    if given::wrong_budgets(steps, branches) {
-        return 1;
-    }
-    if given::short_tables(table.len(), pool.len()) {
-        return 2;
-    }
-    let mut code = [0u32; CODE_WORDS];
-    let mut names = [0u32; 33];
-    let refusal = verdict::read_program(text, &mut code, &mut names);
-    if refusal != 0 {
-        return refusal;
-    }
-    tables::explore(&code, steps, branches, table, pool)
+    call_explore::explore(text, steps, branches, table, pool)
 }
 
 // place: 256 more than the number of the row that the inputs fall in, and table and pool as explore leaves them; or 1 to 10, as explore
@@ -97,26 +59,7 @@ pub extern "C" fn chomphurek_place(
     table: &mut [u8],
     pool: &mut [u8],
 ) -> u32
-    ensures { λ r. ⌜ record { returns = r; table = now (table .exit); pool = now (pool .exit) } ≡ placeCall (now (text .entry)) (now (inputs .entry)) steps branches (now (table .entry)) (now (pool .entry)) ⌝ }
+    ensures { λ r. ⌜ Promise (place (now (text .entry)) (now (inputs .entry)) steps branches (now (table .entry)) (now (pool .entry))) (record { returns = r; table = now (table .exit); pool = now (pool .exit) }) ⌝ }
 {
-    if given::wrong_budgets(steps, branches) {
-        return 1;
-    }
-    if given::wrong_inputs(inputs) {
-        return 2;
-    }
-    if given::short_tables(table.len(), pool.len()) {
-        return 2;
-    }
-    let mut code = [0u32; CODE_WORDS];
-    let mut names = [0u32; 33];
-    let refusal = verdict::read_program(text, &mut code, &mut names);
-    if refusal != 0 {
-        return refusal;
-    }
-    let full = tables::explore(&code, steps, branches, table, pool);
-    if full != 0 {
-        return full;
-    }
-    256 + locate::locate(table, pool, inputs)
+    call_place::place(text, inputs, steps, branches, table, pool)
 }

@@ -13,13 +13,13 @@ use Rattle.gil.specs.Pool.{Ref, Pool, table, valueOf, poolValues, meets, placed
 use Rattle.gil.specs.Accounts.{putIn, Stands}
 use Rattle.gil.specs.Demand3.{of-the-table}
 use Rattle.gil.specs.Theory.Tests.{no-false}
-use Rattle.gil.specs.Numbers.{tableLength, poolLength, answerLength, inputsLength}
+use Rattle.gil.specs.Numbers.{mostSteps, forBudgets, firstRow, tableLength, poolLength, answerLength, inputsLength}
 use Rattle.gil.specs.Layout.{tableBytes, poolBytes, answerBytes, inputWords}
 use Rattle.gil.specs.Calls as Calls
 use Rattle.gil.specs.Calls.{PlainAnswer, TableAnswer}
-use Rattle.lent_words.specs.Words.{wordAt}
-use Rattle.table_locate.specs.Sound.{Sound}
-use Rattle.table_locate.specs.Inputs.{Bytes}
+use Rattle.lent_words.specs.Mirror.{wordAt}
+use Rattle.table_locate.specs.Laws.Sound.{Sound}
+use Rattle.table_locate.specs.Laws.Inputs.{Bytes}
 use Rattle.demands.specs.Reasons.{ofBudgets, ofLists, ofText, ofExploring, PlainReason, ExploreReason, PlaceReason, ExploresAs}
 use Rattle.demands.specs.Refusals.{sound-table, plain-runs, explore-refuses, explore-explores, place-explores}
 use Rattle.demands.specs.Determined.{ran-as, explored-as, same-tables}
@@ -29,11 +29,11 @@ use Rattle.demands.specs.Rows.{Found, rows-read, meets-read, steps-read,
 -- Arguments that are not refused
 inputs-right : (inputs : List ℕ) → length inputs ≡ inputsLength → Calls.wrongInputs inputs ≡ false
 unfolding Calls.wrongInputs
-inputs-right inputs long = ap not (eq-eqb (length inputs) 64 long)
+inputs-right inputs long = ap not (eq-eqb (length inputs) inputsLength long)
 
-budget-right : (steps : ℕ) → steps ≤ 1024 → Calls.wrongBudget steps ≡ false
+budget-right : (steps : ℕ) → steps ≤ mostSteps → Calls.wrongBudget steps ≡ false
 unfolding Calls.wrongBudget
-budget-right steps h = le-ltb 1024 steps h
+budget-right steps h = le-ltb mostSteps steps h
 
 module _ (text inputs : List ℕ) (budget most : ℕ) (t w : List ℕ) where
   no-reason : Calls.exploreCall text budget most t w .returns ≡ 0 → (n : ℕ) → ExploreReason text budget most t w n → ⊥
@@ -48,7 +48,7 @@ module _ (text inputs : List ℕ) (budget most : ℕ) (t w : List ℕ) where
   place-reason long n (ofExploring r) = ofExploring r
 
   plain-reason :
-      (steps : ℕ) (answer : List ℕ) → length inputs ≡ inputsLength → steps ≤ 1024 → answerLength ≤ length answer → (n : ℕ)
+      (steps : ℕ) (answer : List ℕ) → length inputs ≡ inputsLength → steps ≤ mostSteps → answerLength ≤ length answer → (n : ℕ)
       → PlainReason text inputs steps answer n → ExploreReason text budget most t w n
   plain-reason steps answer long h g n (ofBudgets e) = no-false e (budget-right steps h)
   plain-reason steps answer long h g n (ofLists e) =
@@ -74,7 +74,7 @@ module _ (text inputs : List ℕ) (budget most : ℕ) (t w : List ℕ) where
           → table p budget most ≡ explored terms rows
           → Found (tableBytes terms rows ++ extra) (poolBytes terms ++ rest) inputs p (placed (inputWords inputs) terms rows)
       found {p} {terms} {rows} extra rest reads explores =
-          let s : Sound terms rows = sound-table text budget most (λ e. none 1 (ofBudgets e)) reads explores in
+          let s : Sound terms rows = sound-table text budget most (λ e. none forBudgets (ofBudgets e)) reads explores in
           let (a, e) = of-the-table p budget most (inputWords inputs) terms rows explores in
           accounted-found s extra rest inputs long bytes p (placed (inputWords inputs) terms rows) a e
 
@@ -95,7 +95,7 @@ module _ (text inputs : List ℕ) (budget most : ℕ) (t w : List ℕ) where
             there = f .there;
             met = f .met;
             only = f .only;
-            placed = ap (λ (a : TableAnswer). a .returns) (explored-as place reads explores) ∙ ap (λ (k : ℕ). 256 + k) (f .placed);
+            placed = ap (λ (a : TableAnswer). a .returns) (explored-as place reads explores) ∙ ap (λ (k : ℕ). firstRow + k) (f .placed);
             ran = ran;
             used = ap (λ (a : PlainAnswer). wordAt (a .answer) 12) ran ∙ f .used (drop answerLength answer);
           }

@@ -14,10 +14,11 @@ use Rattle.gil.specs.Rows.{Row}
 use Rattle.gil.specs.Plain.{plainRun}
 use Rattle.gil.specs.Explore.{explored}
 use Rattle.gil.specs.Pool.{Ref, Pool, table}
-use Rattle.gil.specs.Numbers.{tableLength, poolLength, answerLength}
+use Rattle.gil.specs.Numbers.{forEnd, forTerms, tableLength, poolLength, answerLength}
 use Rattle.gil.specs.Layout.{tableBytes, poolBytes, answerBytes, inputWords}
 use Rattle.gil.specs.Calls.{PlainAnswer, TableAnswer}
-use Rattle.demands.specs.Reasons.{Zero, Refuses, Leaves, RunsAs, ExploresAs}
+use Rattle.demands.specs.Reasons.{Zero, First, Refuses, Leaves, RunsAs, ExploresAs}
+use Rattle.demands.specs.Orders.{first-holds, first-same}
 
 -- answers are what they hold
 plain-eq : {a b : PlainAnswer} → a .returns ≡ b .returns → a .answer ≡ b .answer → a ≡ b
@@ -75,68 +76,75 @@ module _ {text : List ℕ} {budget most : ℕ} {t w : List ℕ} where
 -- two versions of a call, given the same: no reason holds, or both refuse by the first
 data Both (R : ℕ → Type 0) (m n : ℕ) : Type 0 where
   noReason : ((k : ℕ) → R k → ⊥) → Both R m n
-  oneReason : 1 ≤ m → m ≤ 10 → m ≡ n → Both R m n
+  oneReason : R m → m ≡ n → Both R m n
 
-module _ {R Success : ℕ → Type 0} {l h m n : ℕ} (low : 1 ≤ l) (high : h ≤ 10) where
-  both : Refuses R l h Success m → Refuses R l h Success n → Both R m n
-  both f g = at (f .nothingElse)
+module _ {R Success : ℕ → Type 0} {order : List ℕ} {m n : ℕ} where
+  both : Refuses R order Success m → Refuses R order Success n → Both R m n
+  both f g = at (f .nothingElse) (g .nothingElse)
     where
-      at : Success m ⊎ ((l ≤ m) × (m ≤ h)) → Both R m n
-      at (inl s) = noReason (f .otherwise .0 s)
-      at (inr (a, b)) =
-          let c : 1 ≤ m = omega arith in
-          let d : m ≤ 10 = omega arith in
-          oneReason c d (sym (g .exactly m c d .1 (f .exactly m c d .0 refl)))
+      at : Success m ⊎ First R order m → Success n ⊎ First R order n → Both R m n
+      at (inl s) t = noReason (f .otherwise .0 s)
+      at (inr s) (inl t) = noReason (g .otherwise .0 t)
+      at (inr s) (inr t) = oneReason (first-holds s) (first-same s t)
 
-pub same-check : {R : ℕ → Type 0} {m n : ℕ} → Refuses R 3 8 Zero m → Refuses R 3 8 Zero n → m ≡ n
-same-check {R} {m} {n} f g = at (both (omega arith) (omega arith) f g)
+pub same-check : {R : ℕ → Type 0} {order : List ℕ} {m n : ℕ} → Refuses R order Zero m → Refuses R order Zero n → m ≡ n
+same-check {R} {order} {m} {n} f g = at (both f g)
   where
     at : Both R m n → m ≡ n
     at (noReason no-reason) = f .otherwise .1 no-reason ∙ sym (g .otherwise .1 no-reason)
-    at (oneReason _ _ e) = e
+    at (oneReason _ e) = e
 
-module _ {R : ℕ → Type 0} {text inputs : List ℕ} {budget : ℕ} {answer : List ℕ} {a b : PlainAnswer} where
-  pub same-plain :
-      Refuses R 1 8 Zero (a .returns)
-      → Refuses R 1 8 Zero (b .returns)
-      → (1 ≤ a .returns → a .answer ≡ answer)
-      → (1 ≤ b .returns → b .answer ≡ answer)
-      → (((n : ℕ) → R n → ⊥) → RunsAs text inputs budget answer a)
-      → (((n : ℕ) → R n → ⊥) → RunsAs text inputs budget answer b)
-      → a ≡ b
-  same-plain f g keep-a keep-b run-a run-b = at (both (omega arith) (omega arith) f g)
-    where
-      at : Both R (a .returns) (b .returns) → a ≡ b
-      at (noReason no-reason) = ran-as (run-a no-reason) (run-b no-reason .reads) ∙ sym (run-b no-reason .is)
-      at (oneReason l _ e) = plain-eq e (keep-a l ∙ sym (keep-b (omega arith)))
+-- whatever their order: the reasons of the plain run are 1 to 8, of an exploration 1 to 10
+module _
+    {R : ℕ → Type 0} {order : List ℕ} (range : (n : ℕ) → R n → (1 ≤ n) × (n ≤ forEnd)) {text inputs : List ℕ} {budget : ℕ} {answer : List ℕ}
+    {a a′ : PlainAnswer}
+  where
+    pub same-plain :
+        Refuses R order Zero (a .returns)
+        → Refuses R order Zero (a′ .returns)
+        → (1 ≤ a .returns → a .answer ≡ answer)
+        → (1 ≤ a′ .returns → a′ .answer ≡ answer)
+        → (((n : ℕ) → R n → ⊥) → RunsAs text inputs budget answer a)
+        → (((n : ℕ) → R n → ⊥) → RunsAs text inputs budget answer a′)
+        → a ≡ a′
+    same-plain f g keeps keeps′ runs runs′ = at (both f g)
+      where
+        at : Both R (a .returns) (a′ .returns) → a ≡ a′
+        at (noReason no-reason) = ran-as (runs no-reason) (runs′ no-reason .reads) ∙ sym (runs′ no-reason .is)
+        at (oneReason r e) =
+            let (l, _) = range (a .returns) r in
+            plain-eq e (keeps l ∙ sym (keeps′ (omega arith)))
 
 module _
-    {R Success : ℕ → Type 0} {succeed : Pool → List (Row Ref) → ℕ} {text : List ℕ} {budget most : ℕ} {t w : List ℕ} {a b : TableAnswer}
+    {R Success : ℕ → Type 0} {order : List ℕ} (range : (n : ℕ) → R n → (1 ≤ n) × (n ≤ forTerms)) {succeed : Pool → List (Row Ref) → ℕ}
+    {text : List ℕ} {budget most : ℕ} {t w : List ℕ} {a a′ : TableAnswer}
   where
     pub same-exploration :
-        Refuses R 1 10 Success (a .returns)
-        → Refuses R 1 10 Success (b .returns)
+        Refuses R order Success (a .returns)
+        → Refuses R order Success (a′ .returns)
         → Leaves t w a
-        → Leaves t w b
+        → Leaves t w a′
         → (((n : ℕ) → R n → ⊥) → ExploresAs succeed text budget most t w a)
-        → (((n : ℕ) → R n → ⊥) → ExploresAs succeed text budget most t w b)
-        → a ≡ b
-    same-exploration f g leave-a leave-b as-a as-b = at (both (omega arith) (omega arith) f g)
+        → (((n : ℕ) → R n → ⊥) → ExploresAs succeed text budget most t w a′)
+        → a ≡ a′
+    same-exploration f g leaves leaves′ comes comes′ = at (both f g)
       where
-        refused : (early : Bool) → leb (a .returns) 8 ≡ early → 1 ≤ a .returns → a .returns ≤ 10 → a .returns ≡ b .returns → a ≡ b
+        refused : (early : Bool) → leb (a .returns) forEnd ≡ early → 1 ≤ a .returns → a .returns ≤ forTerms → a .returns ≡ a′ .returns → a ≡ a′
         refused true d l h e =
-            let k : a .returns ≤ 8 = leb-true (a .returns) 8 d in
-            let (ta, wa) = leave-a .untouched l k in
-            let (tb, wb) = leave-b .untouched (omega arith) (omega arith) in
-            tables-eq e (ta ∙ sym tb) (wa ∙ sym wb)
+            let k : a .returns ≤ forEnd = leb-true (a .returns) forEnd d in
+            let (t-is, w-is) = leaves .untouched l k in
+            let (t-also, w-also) = leaves′ .untouched (omega arith) (omega arith) in
+            tables-eq e (t-is ∙ sym t-also) (w-is ∙ sym w-also)
         refused false d l h e =
-            let k : 8 < a .returns = leb-false (a .returns) 8 d in
-            let (ta, wa) = leave-a .zero k h in
-            let (tb, wb) = leave-b .zero (omega arith) (omega arith) in
-            tables-eq e (ta ∙ sym tb) (wa ∙ sym wb)
+            let k : forEnd < a .returns = leb-false (a .returns) forEnd d in
+            let (t-is, w-is) = leaves .zero k h in
+            let (t-also, w-also) = leaves′ .zero (omega arith) (omega arith) in
+            tables-eq e (t-is ∙ sym t-also) (w-is ∙ sym w-also)
 
-        at : Both R (a .returns) (b .returns) → a ≡ b
+        at : Both R (a .returns) (a′ .returns) → a ≡ a′
         at (noReason no-reason) =
-            let y = as-b no-reason in
-            explored-as (as-a no-reason) (y .reads) (y .explores) ∙ sym (y .is)
-        at (oneReason l h e) = refused (leb (a .returns) 8) refl l h e
+            let y = comes′ no-reason in
+            explored-as (comes no-reason) (y .reads) (y .explores) ∙ sym (y .is)
+        at (oneReason r e) =
+            let (l, h) = range (a .returns) r in
+            refused (leb (a .returns) forEnd) refl l h e

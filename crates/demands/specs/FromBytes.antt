@@ -8,12 +8,12 @@ use mathlib.Core.List.{List, [], _∷_, _++_}
 use lib.ListN.{getD, take, drop, replicate}
 use lib.Dec.{ltb, eqb}
 use Rattle.gil.specs.Names.{gather}
-use Rattle.gil.specs.Numbers.{answerLength}
+use Rattle.gil.specs.Numbers.{mostTerms, firstRow, rowLength, headingLength, numberTermTag, asCut, forSteps, answerLength}
 use Rattle.gil.specs.Layout.{wordBytes}
 use Rattle.gil.specs.Calls.{PlainAnswer}
-use Rattle.lent_words.specs.Words.{wordAt}
-use Rattle.machine_values.specs.Packed.{if?}
-use Rattle.table_locate.specs.Located.{atMost, valuesTo, rowHolds}
+use Rattle.machine_code.specs.Mirror.{if?}
+use Rattle.lent_words.specs.Mirror.{wordAt, atMost}
+use Rattle.table_locate.specs.Mirror.{valuesTo, rowHolds}
 
 -- the table: word 0 is the number of rows; a row's 256 words stand behind 64 bytes of heading and the rows before
 unfoldable pub rowsIn : List ℕ → ℕ
@@ -24,15 +24,15 @@ wordsAt b at zero = []
 wordsAt b at (suc n) = wordAt b at ∷ wordsAt b (at + 4) n
 
 unfoldable pub rowIn : List ℕ → ℕ → List ℕ
-rowIn table k = wordsAt table (64 + 1024 * k) 256
+rowIn table k = wordsAt table (headingLength + rowLength * k) 256
 
 -- word 3 of a row
 unfoldable pub stepsIn : List ℕ → ℕ → ℕ
-stepsIn table k = wordAt table (64 + 1024 * k + 12)
+stepsIn table k = wordAt table (headingLength + rowLength * k + 12)
 
 -- the values of the pool's terms on given inputs, front to back, each term once: a value is its tag times 2^32 and its word
 unfoldable pub valuesIn : (table pool inputs : List ℕ) → List ℕ
-valuesIn table pool inputs = valuesTo pool inputs (replicate 2048 0) (atMost 2048 (wordAt table 4))
+valuesIn table pool inputs = valuesTo pool inputs (replicate mostTerms 0) (atMost mostTerms (wordAt table 4))
 
 -- inputs meet row k's conditions: each term has the truth that the row says
 unfoldable pub meetsRow : (table pool inputs : List ℕ) → ℕ → Bool
@@ -40,10 +40,10 @@ meetsRow table pool inputs k = rowHolds table (valuesIn table pool inputs) k
 
 -- a value's two words once the inputs are put in: tags 4 and 5 are terms, and become the constants that they come to
 unfoldable pub putTag : (values : List ℕ) → (tag w : ℕ) → ℕ
-putTag values tag w = if? (ltb tag 4) tag (getD values w 0 / 4294967296)
+putTag values tag w = if? (ltb tag numberTermTag) tag (getD values w 0 / 4294967296)
 
 unfoldable pub putWord : (values : List ℕ) → (tag w : ℕ) → ℕ
-putWord values tag w = if? (ltb tag 4) w (getD values w 0 % 4294967296)
+putWord values tag w = if? (ltb tag numberTermTag) w (getD values w 0 % 4294967296)
 
 -- variables are values side by side; a cell has its location and its property before its value
 unfoldable pub putVariables : (values : List ℕ) → List ℕ → List ℕ
@@ -61,7 +61,7 @@ putCells values (location ∷ property ∷ tag ∷ w ∷ rest) =
 
 -- words 1 and 2: a cut (outcome 5), by either budget, is a cut for steps; and else a value, or an error's number behind a tag of 0
 unfoldable pub putOutcome : (values : List ℕ) → (outcome tag w : ℕ) → List ℕ
-putOutcome values outcome tag w = if? (eqb outcome 5) (0 ∷ 1 ∷ []) (putTag values tag w ∷ putWord values tag w ∷ [])
+putOutcome values outcome tag w = if? (eqb outcome asCut) (0 ∷ forSteps ∷ []) (putTag values tag w ∷ putWord values tag w ∷ [])
 
 -- words 0 to 15: outcome and value; steps, procedure, command and inputs read as they are; word 7, the number of conditions, is 0
 unfoldable pub putHead : (values : List ℕ) → List ℕ → List ℕ
@@ -85,7 +85,7 @@ pub record OneRow (inputs table pool lentAnswer : List ℕ) (place : ℕ) (run :
   pub there : row < rowsIn table
   pub met : meetsRow table pool inputs row ≡ true
   pub only : (k : ℕ) → k < rowsIn table → meetsRow table pool inputs k ≡ true → k ≡ row
-  pub placed : place ≡ 256 + row
+  pub placed : place ≡ firstRow + row
   pub ran :
       run (stepsIn table row) ≡ record { returns = 0; answer = putInBytes table pool inputs row ++ drop answerLength lentAnswer }
   -- word 3 of the answer

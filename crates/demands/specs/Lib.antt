@@ -1,5 +1,6 @@
 pub mod Demands
 pub mod Reasons
+pub mod Orders
 pub mod FromBytes
 pub mod Texts
 pub mod Overruns
@@ -8,5 +9,3 @@ pub mod Determined
 pub mod PutIn
 pub mod Rows
 pub mod Accounted
-pub mod Examples
-pub mod WrongVersions

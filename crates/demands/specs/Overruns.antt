@@ -8,6 +8,7 @@ use mathlib.Core.List.{List, [], _∷_}
 use lib.ListN.{length}
 use lib.Dec.{ltb, leb}
 use borrow.Author.Tests.{ltb-true, ltb-false, leb-true, leb-false, lt-ltb, le-ltb, le-leb, lt-leb}
+use Rattle.gil.specs.Numbers.{mostRows, mostTerms, forRows, forTerms}
 use Rattle.gil.specs.Names.{Program, refused, accepted, checkText}
 use Rattle.gil.specs.Rows.{Path, Row, cutFor, steps}
 use Rattle.gil.specs.Explore as Explore
@@ -25,11 +26,11 @@ module _ (p : Program) (budget most : ℕ) where
 
   overruns-stop : {n : ℕ} {x : Exploring Pool Ref} → Overruns p budget most n x → Advances x ≡ stopped n
   unfolding Advances pooled advance finish waitingOn afterMove overfull termsAfter turnAfter onTurn
-  overruns-stop (rowOfCut {rows = rows} {q = q} h g) = simp (le-leb budget (q .steps) h, le-leb 64 (length rows) g, advance, finish)
+  overruns-stop (rowOfCut {rows = rows} {q = q} h g) = simp (le-leb budget (q .steps) h, le-leb mostRows (length rows) g, advance, finish)
   overruns-stop (rowOfCommand {w = w} {rows = rows} {q = q} h f e g) =
-      simp (lt-leb budget (q .steps) h, le-ltb 2048 (length (termsAfter p w q)) f, e, le-leb 64 (length rows) g, advance, afterMove, finish)
+      simp (lt-leb budget (q .steps) h, le-ltb mostTerms (length (termsAfter p w q)) f, e, le-leb mostRows (length rows) g, advance, afterMove, finish)
   overruns-stop (termOfCommand {w = w} {q = q} h f) =
-      simp (lt-leb budget (q .steps) h, lt-ltb 2048 (length (termsAfter p w q)) f, advance, afterMove)
+      simp (lt-leb budget (q .steps) h, lt-ltb mostTerms (length (termsAfter p w q)) f, advance, afterMove)
 
   -- an exploration that has stopped now had stopped before, or overran
   Stopped : ℕ → Exploring Pool Ref → Type 0
@@ -44,18 +45,18 @@ module _ (p : Program) (budget most : ℕ) where
 
   finish-stops :
       {n : ℕ} {x : Exploring Pool Ref} (w : Pool) (rows : List (Row Ref)) (qs : List (Path Ref)) (r : Row Ref)
-      → (64 ≤ length rows → Overruns p budget most 9 x)
+      → (mostRows ≤ length rows → Overruns p budget most forRows x)
       → waitingOn qs (finish w rows r) ≡ stopped n
       → Stopped n x
   unfolding finish waitingOn
   finish-stops {n} {x} w rows qs r o =
-      chosen (λ (y : Explored Pool Ref). waitingOn qs y ≡ stopped n → Stopped n x) (leb 64 (length rows))
-      (λ e s. overran s (o (leb-true 64 (length rows) e)))
+      chosen (λ (y : Explored Pool Ref). waitingOn qs y ≡ stopped n → Stopped n x) (leb mostRows (length rows))
+      (λ e s. overran s (o (leb-true mostRows (length rows) e)))
       (λ e s. not-stopped s)
 
   turn-stops :
       {n : ℕ} {x : Exploring Pool Ref} (w : Pool) (rows : List (Row Ref)) (qs : List (Path Ref)) (t : Turn Ref)
-      → ((r : Row Ref) → t ≡ finishes r → 64 ≤ length rows → Overruns p budget most 9 x)
+      → ((r : Row Ref) → t ≡ finishes r → mostRows ≤ length rows → Overruns p budget most forRows x)
       → onTurn w rows qs t ≡ stopped n
       → Stopped n x
   unfolding onTurn
@@ -72,9 +73,9 @@ module _ (p : Program) (budget most : ℕ) where
       (λ e. finish-stops w rows qs (cutFor steps q) (rowOfCut (leb-true budget (q .steps) e)))
       (λ e.
       let h : q .steps < budget = leb-false budget (q .steps) e in
-      chosen (λ (y : Exploring Pool Ref). y ≡ stopped n → Stopped n (exploring w rows (q ∷ qs))) (ltb 2048 (length (termsAfter p w q)))
-      (λ f t. overran t (termOfCommand h (ltb-true 2048 (length (termsAfter p w q)) f)))
-      (λ f. turn-stops (termsAfter p w q) rows qs (turnAfter p most w q) (λ r. rowOfCommand h (ltb-false 2048 (length (termsAfter p w q)) f))))
+      chosen (λ (y : Exploring Pool Ref). y ≡ stopped n → Stopped n (exploring w rows (q ∷ qs))) (ltb mostTerms (length (termsAfter p w q)))
+      (λ f t. overran t (termOfCommand h (ltb-true mostTerms (length (termsAfter p w q)) f)))
+      (λ f. turn-stops (termsAfter p w q) rows qs (turnAfter p most w q) (λ r. rowOfCommand h (ltb-false mostTerms (length (termsAfter p w q)) f))))
       s
 
   -- after a stop it stays stopped
@@ -128,7 +129,7 @@ module _ (p : Program) (budget most : ℕ) where
       let m : ℕ = 65 * suc budget in
       stopped-overruns m (ends-at-the-table p budget most m (omega arith) ∙ ap (waitingOn []) e)
 
-pub overruns-range : {p : Program} {budget most n : ℕ} {x : Exploring Pool Ref} → Overruns p budget most n x → (9 ≤ n) × (n ≤ 10)
+pub overruns-range : {p : Program} {budget most n : ℕ} {x : Exploring Pool Ref} → Overruns p budget most n x → (forRows ≤ n) × (n ≤ forTerms)
 overruns-range (rowOfCut h g) = omega arith
 overruns-range (rowOfCommand h f e g) = omega arith
 overruns-range (termOfCommand h f) = omega arith
@@ -141,5 +142,5 @@ overrun-table {p = p} {budget} {most} {n} e (after k {p = q} f o) =
     let same : q ≡ p = cc in
     subst (λ (r : Program). table r budget most ≡ Explore.refused n) same (overruns-table q budget most k o)
 
-pub overrun-late : {text : List ℕ} {budget most : ℕ} (n : ℕ) → Overrun text budget most n → (9 ≤ n) × (n ≤ 10)
+pub overrun-late : {text : List ℕ} {budget most : ℕ} (n : ℕ) → Overrun text budget most n → (forRows ≤ n) × (n ≤ forTerms)
 overrun-late n (after k e o) = overruns-range o

@@ -1,30 +1,36 @@
 -- A sound row's words, with inputs put in, are the words of the row with the inputs put in: what is read from the bytes is what demand 3
 -- says of the definitions. Assumes nothing.
-use Prim.Native.Nat.{ℕ, zero, suc, _+_, _*_, _-_, _/_, _%_, _≤_, _<_}
+use Prim.Native.Nat.{ℕ, zero, suc, _+_, _*_, _-_, _/_, _%_, _<_}
 use native.Mathlib.Omega.{arith}
 use mathlib.Core.Path.{_≡_, refl, sym, _∙_, ap, ap₂}
 use mathlib.Core.Bool.{true, false}
 use mathlib.Core.List.{List, [], _∷_, _++_, map, append-assoc}
 use mathlib.Core.Option.{Option, none, some}
-use lib.ListN.{length, take, drop, replicate, length-append, length-map}
-use lib.Seq.{take-at, drop-at}
+use lib.ListN.{length, drop, replicate, length-map}
+use lib.Seq.{drop-drop}
 use lib.Dec.{eqb}
 use Rattle.gil.specs.Names.{gather}
-use Rattle.gil.specs.Values.{Constant, number, boolean, location, Value, const, term}
+use Rattle.gil.specs.Values.{Constant, location, Value, const}
 use Rattle.gil.specs.Machine.{Cell, returned, failed, vanished, error}
 use Rattle.gil.specs.Rows.{steps, branches, Outcome, ended, cut, Row}
 use Rattle.gil.specs.Pool.{Ref, numberTerm, booleanTerm, placeIn, Pool, valueOf}
 use Rattle.gil.specs.Accounts as Accounts
-use Rattle.gil.specs.Layout.{wordBytes, rowBytes, answerBytes, room, bit, constantWords, valueWords, variableWords, cellWords, conditionWords, endWords, outcomeWords, headWords, rowWords, reasonCode, refTag, noNumber}
+use Rattle.gil.specs.Numbers.{asReturned, asFailed, asCut, headRoom, conditionsRoom, variablesRoom, cellsRoom}
+use Rattle.gil.specs.Layout.{wordBytes, rowBytes, answerBytes, room, partsWords, bit, constantWords, valueWords, variableWords, cellWords, endWords, outcomeWords, headWords, rowParts, rowWords, reasonCode, refTag, noNumber}
+use Rattle.gil.specs.Theory.Gathered.{gather-append, length-gather-each}
 use Rattle.machine_code.specs.WellFormed as WellFormed
 use Rattle.machine_code.specs.WellFormed.{Each}
-use Rattle.lent_words.specs.Words.{wordAt}
-use Rattle.lent_words.specs.Reads.{wordAt-bytes}
-use Rattle.machine_values.specs.Packed.{truthWord}
+use Rattle.machine_values.specs.Mirror.{truthWord}
+use Rattle.lent_words.specs.Mirror.{wordAt}
+use Rattle.lent_words.specs.Laws.Reads.{wordAt-bytes}
+use Rattle.lent_words.specs.Laws.Rooms.{length-words}
+use Rattle.lent_words.specs.Laws.Parts as parts
+use Rattle.lent_words.specs.Laws.Parts.{Change, change, changed, parts-changed}
+use Rattle.lent_words.specs.Laws.Row.{variable-two, cell-four, outcome-three, head-fits, conditions-fit, variables-fit, cells-fit}
 use Rattle.machine_values.specs.Laws.{ConstAs, aNumber, aTruth, aLocation}
-use Rattle.table_locate.specs.Sound.{ValueFits, fitsNumber, fitsTruth, fitsLocation, fitsTerm, VariableFits, unbound, bound, CellFits, fitsReturned, fitsFailed, fitsVanished, fitsError, OutcomeFits, fitsEnded, fitsCut, RowFits}
-use Rattle.table_locate.specs.Terms.{gather-append, length-words, ValuesAs, tagOf, wordOf, two-words}
-use Rattle.table_locate.specs.Laws.{length-room, length-parts, length-variable, length-cell, length-condition, length-head}
+use Rattle.table_locate.specs.Laws.Sound.{ValueFits, fitsNumber, fitsTruth, fitsLocation, fitsTerm, VariableFits, unbound, bound, CellFits, fitsReturned, fitsFailed, fitsVanished, fitsError, OutcomeFits, fitsEnded, fitsCut, RowFits}
+use Rattle.table_locate.specs.Laws.Terms.{ValuesAs, tagOf, wordOf, two-words}
+use Rattle.table_locate.specs.Laws.Rows.{within}
 use Rattle.demands.specs.FromBytes.{putTag, putWord, putVariables, putCells, putOutcome, putHead, putRow}
 
 -- a constant's two words, from its packed value
@@ -78,32 +84,27 @@ module _ {A B : Type 0} {P : A → Type 0} (put : List ℕ → List ℕ) (f : A 
   unfolding room
   put-room zeros k n u v {l} ps =
       let same : length (gather f l) ≡ length (gather g (map h l)) =
-      length-parts f k u l ∙ ap (λ (m : ℕ). k * m) (sym (length-map l h)) ∙ sym (length-parts g k v (map h l)) in
+      length-gather-each f k u l ∙ ap (λ (m : ℕ). k * m) (sym (length-map l h)) ∙ sym (length-gather-each g k v (map h l)) in
       put-gather ps (replicate (n - length (gather f l)) 0)
       ∙ ap (λ (r : List ℕ). gather g (map h l) ++ r) (zeros (n - length (gather f l)))
       ∙ ap (λ (m : ℕ). gather g (map h l) ++ replicate (n - m) 0) same
 
-part-long :
-    {A : Type 0} (f : A → List ℕ) (k n : ℕ) → ((a : A) → length (f a) ≡ k) → (l : List A) → k * length l ≤ n
-    → length (room n (gather f l)) ≡ n
-part-long f k n g l h = length-room n (gather f l) (rw (length-parts f k g) h)
+-- putting inputs in is a change of each part, in turn
+abbrev rowChanges : List ℕ → List Change
+rowChanges vs =
+    change headRoom (putHead vs)
+    ∷ change conditionsRoom (λ ws. replicate conditionsRoom 0)
+    ∷ change variablesRoom (putVariables vs)
+    ∷ change cellsRoom (putCells vs)
+    ∷ []
 
--- what the plain run's parts are long
-length-constant : (v : Value ⊥) → length (valueWords noNumber noNumber v) ≡ 2
-unfolding valueWords constantWords
-length-constant (const (number n)) = refl
-length-constant (const (boolean b)) = refl
-length-constant (const (location l)) = refl
-length-constant (term t) = absurd t
-
-length-known : (v : Option (Value ⊥)) → length (variableWords noNumber noNumber v) ≡ 2
-unfolding variableWords
-length-known none = refl
-length-known (some v) = length-constant v
-
-length-kept : (c : Cell ⊥) → length (cellWords noNumber noNumber c) ≡ 4
-unfolding cellWords
-length-kept c = ap (λ (n : ℕ). suc (suc n)) (length-constant (c .value))
+by-parts : (vs ws : List ℕ) → putRow vs ws ≡ changed (rowChanges vs) ws
+unfolding putRow changed
+by-parts vs ws =
+    let v : drop conditionsRoom (drop headRoom ws) ≡ drop 48 ws = drop-drop conditionsRoom headRoom ws in
+    let d : drop variablesRoom (drop 48 ws) ≡ drop 80 ws = drop-drop variablesRoom 48 ws in
+    let z : drop cellsRoom (drop 80 ws) ≡ drop 208 ws = drop-drop cellsRoom 80 ws in
+    rw (v, d, z)
 
 module _ {w : Pool} {cs : List Constant} {vs : List ℕ} (values : ValuesAs w cs vs) where
   value : Value Ref → Value ⊥
@@ -135,110 +136,77 @@ module _ {w : Pool} {cs : List Constant} {vs : List ℕ} (values : ValuesAs w cs
       ∙ ap (λ (l : List ℕ). c .location ∷ c .property ∷ (l ++ putCells vs rest)) (sym (put-value (f .value)))
 
   -- an outcome that is no cut
-  no-cut : (o tag x : ℕ) → eqb o 5 ≡ false → putOutcome vs o tag x ≡ putTag vs tag x ∷ putWord vs tag x ∷ []
+  no-cut : (o tag x : ℕ) → eqb o asCut ≡ false → putOutcome vs o tag x ≡ putTag vs tag x ∷ putWord vs tag x ∷ []
   unfolding putOutcome
   no-cut o tag x e = simp (e, putOutcome)
 
-  -- the outcome's three words and what stands behind them in the heading; first where it is a value
+  -- the outcome's three words and what stands behind them in the head; first where it is a value
   valued-put :
-      (o : ℕ) → eqb o 5 ≡ false → {u : Value Ref} → ValueFits w u → (s p c i n v m : ℕ)
-      → putHead vs (room 16 (o ∷ (valueWords refTag placeIn u ++ (s ∷ p ∷ c ∷ i ∷ n ∷ v ∷ m ∷ []))))
-      ≡ room 16 (o ∷ (constantWords (valueOf cs u) ++ (s ∷ p ∷ c ∷ i ∷ 0 ∷ v ∷ m ∷ [])))
+      (o : ℕ) → eqb o asCut ≡ false → {u : Value Ref} → ValueFits w u → (s p c i n : ℕ) (more : List ℕ)
+      → putHead vs (room headRoom (o ∷ (valueWords refTag placeIn u ++ (s ∷ p ∷ c ∷ i ∷ n ∷ more))))
+      ≡ room headRoom (o ∷ (constantWords (valueOf cs u) ++ (s ∷ p ∷ c ∷ i ∷ 0 ∷ more)))
   unfolding putHead room
-  valued-put o e {u} f s p c i n v m =
-      ap (λ (l : List ℕ). putHead vs (room 16 (o ∷ l))) (two-words u (s ∷ p ∷ c ∷ i ∷ n ∷ v ∷ m ∷ []))
-      ∙ ap (λ (l : List ℕ). o ∷ (l ++ (s ∷ p ∷ c ∷ i ∷ 0 ∷ v ∷ m ∷ replicate 6 0))) (no-cut o (tagOf u) (wordOf u) e)
-      ∙ ap (λ (l : List ℕ). room 16 (o ∷ (l ++ (s ∷ p ∷ c ∷ i ∷ 0 ∷ v ∷ m ∷ [])))) (sym (put-value f))
+  valued-put o e {u} f s p c i n more =
+      ap (λ (l : List ℕ). putHead vs (room headRoom (o ∷ l))) (two-words u (s ∷ p ∷ c ∷ i ∷ n ∷ more))
+      ∙ ap
+      (λ (l : List ℕ). o ∷ (l ++ (s ∷ p ∷ c ∷ i ∷ 0 ∷ (more ++ replicate (headRoom - length (o ∷ s ∷ s ∷ s ∷ p ∷ c ∷ i ∷ n ∷ more)) 0))))
+      (no-cut o (tagOf u) (wordOf u) e)
+      ∙ ap (λ (l : List ℕ). room headRoom (o ∷ (l ++ (s ∷ p ∷ c ∷ i ∷ 0 ∷ more)))) (sym (put-value f))
 
   head-put :
-      (o : Outcome Ref) → OutcomeFits w o → (s p c i n v m : ℕ)
-      → putHead vs (room 16 (outcomeWords refTag placeIn o ++ (s ∷ p ∷ c ∷ i ∷ n ∷ v ∷ m ∷ [])))
-      ≡ room 16 (outcomeWords noNumber noNumber (Accounts.putOutcome (valueOf cs) o) ++ (s ∷ p ∷ c ∷ i ∷ 0 ∷ v ∷ m ∷ []))
+      (o : Outcome Ref) → OutcomeFits w o → (s p c i n : ℕ) (more : List ℕ)
+      → putHead vs (room headRoom (outcomeWords refTag placeIn o ++ (s ∷ p ∷ c ∷ i ∷ n ∷ more)))
+      ≡ room headRoom (outcomeWords noNumber noNumber (Accounts.putOutcome (valueOf cs) o) ++ (s ∷ p ∷ c ∷ i ∷ 0 ∷ more))
   unfolding outcomeWords endWords reasonCode Accounts.putOutcome Accounts.putEnd valueWords putHead putOutcome putTag putWord room
-  head-put (ended (returned u)) (fitsEnded (fitsReturned f)) s p c i n v m = valued-put 1 refl f s p c i n v m
-  head-put (ended (failed u)) (fitsEnded (fitsFailed f)) s p c i n v m = valued-put 2 refl f s p c i n v m
-  head-put (ended vanished) (fitsEnded fitsVanished) s p c i n v m = refl
-  head-put (ended (error k)) (fitsEnded (fitsError f g)) s p c i n v m = refl
-  head-put (cut steps) fitsCut s p c i n v m = refl
-  head-put (cut branches) fitsCut s p c i n v m = refl
-
-  -- the parts of a row's words
-  parts-put :
-      (h c v d z : List ℕ) → length h ≡ 16 → length c ≡ 32 → length v ≡ 32 → length d ≡ 128
-      → putRow vs (h ++ c ++ v ++ d ++ z) ≡ putHead vs h ++ (replicate 32 0 ++ (putVariables vs v ++ (putCells vs d ++ z)))
-  unfolding putRow
-  parts-put h c v d z lh lc lv ld =
-      let ws : List ℕ = h ++ c ++ v ++ d ++ z in
-      let from-h : ws ≡ h ++ (c ++ (v ++ (d ++ z))) = simp append-assoc in
-      let from-v : ws ≡ (h ++ c) ++ (v ++ (d ++ z)) = simp append-assoc in
-      let from-d : ws ≡ (h ++ c ++ v) ++ (d ++ z) = simp append-assoc in
-      let head : take 16 ws ≡ h = ap (take 16) from-h ∙ take-at h (c ++ (v ++ (d ++ z))) 16 lh in
-      let variables : take 32 (drop 48 ws) ≡ v =
-      ap (λ (l : List ℕ). take 32 (drop 48 l)) from-v
-      ∙ ap (take 32) (drop-at (h ++ c) (v ++ (d ++ z)) 48 (simp length-append (omega arith)))
-      ∙ take-at v (d ++ z) 32 lv in
-      let cells : take 128 (drop 80 ws) ≡ d =
-      ap (λ (l : List ℕ). take 128 (drop 80 l)) from-d
-      ∙ ap (take 128) (drop-at (h ++ c ++ v) (d ++ z) 80 (simp length-append (omega arith)))
-      ∙ take-at d z 128 ld in
-      let last : drop 208 ws ≡ z = drop-at (h ++ c ++ v ++ d) z 208 (simp length-append (omega arith)) in
-      rw (head, variables, cells, last)
-
-  joined : (h c v d z h′ v′ d′ : List ℕ) → h ≡ h′ → v ≡ v′ → d ≡ d′ → h ++ (c ++ (v ++ (d ++ z))) ≡ h′ ++ c ++ v′ ++ d′ ++ z
-  joined h c v d z h′ v′ d′ e f g = rw (e, f, g) (simp append-assoc)
+  head-put (ended (returned u)) (fitsEnded (fitsReturned f)) s p c i n more = valued-put asReturned refl f s p c i n more
+  head-put (ended (failed u)) (fitsEnded (fitsFailed f)) s p c i n more = valued-put asFailed refl f s p c i n more
+  head-put (ended vanished) (fitsEnded fitsVanished) s p c i n more = refl
+  head-put (ended (error k)) (fitsEnded (fitsError f g)) s p c i n more = refl
+  head-put (cut steps) fitsCut s p c i n more = refl
+  head-put (cut branches) fitsCut s p c i n more = refl
 
   -- a row's words with the inputs put in are the words of the row with the inputs put in
   pub row-put :
       {r : Row Ref} → RowFits w r
       → putRow vs (rowWords refTag placeIn r) ≡ rowWords noNumber noNumber (Accounts.putIn (valueOf cs) r)
-  unfolding rowWords headWords Accounts.putIn Accounts.rowWith value room gather
+  unfolding rowWords rowParts headWords Accounts.putIn Accounts.rowWith value room gather
   row-put {r} f =
-      let head : putHead vs (headWords refTag placeIn r) ≡ headWords noNumber noNumber (Accounts.putIn (valueOf cs) r) =
-      head-put (r .outcome) (f .outcome) (r .steps) (r .procedure) (r .command) (r .inputs) (length (r .conditions)) (length (r .variables))
-      (length (r .cells))
-      ∙ ap₂
-      (λ (v c : ℕ).
-      room 16
-      (outcomeWords noNumber noNumber (Accounts.putOutcome (valueOf cs) (r .outcome))
-      ++ (r .steps ∷ r .procedure ∷ r .command ∷ r .inputs ∷ 0 ∷ v ∷ c ∷ [])))
+      let counts : (ls : List ℕ) → List ℕ =
+      λ ls. room headRoom (outcomeWords noNumber noNumber (Accounts.putOutcome (valueOf cs) (r .outcome)) ++ (r .steps ∷ r .procedure ∷ r .command ∷ r .inputs ∷ 0 ∷ ls)) in
+      let head : putHead vs (room headRoom (headWords refTag placeIn r)) ≡ room headRoom (headWords noNumber noNumber (Accounts.putIn (valueOf cs) r)) =
+      head-put (r .outcome) (f .outcome) (r .steps) (r .procedure) (r .command) (r .inputs) (length (r .conditions))
+      (length (r .variables) ∷ length (r .cells) ∷ [])
+      ∙ ap₂ (λ (v c : ℕ). counts (v ∷ c ∷ []))
       (sym (length-map (r .variables) (Accounts.putVariable value))) (sym (length-map (r .cells) (Accounts.putCell value))) in
-      parts-put (headWords refTag placeIn r) _ _ _ (replicate 48 0) (length-head r)
-      (part-long (conditionWords refTag placeIn) 2 32 length-condition (r .conditions) (omega (arith, f .fewConditions)))
-      (part-long (variableWords refTag placeIn) 2 32 length-variable (r .variables) (omega (arith, f .variables .fewVariables)))
-      (part-long (cellWords refTag placeIn) 4 128 length-cell (r .cells) (omega (arith, f .cells .fewCells)))
-      ∙ joined _ (replicate 32 0) _ _ (replicate 48 0) _ _ _ head
+      by-parts vs (rowWords refTag placeIn r)
+      ∙ parts-changed
+      (parts.more (head-fits refTag placeIn r) head
+      (parts.more (conditions-fit refTag placeIn (within f)) refl
+      (parts.more (variables-fit refTag placeIn (within f))
       (put-room (putVariables vs) (variableWords refTag placeIn) (variableWords noNumber noNumber) (Accounts.putVariable value) variable-put
-      (variables-zeros vs) 2 32 length-variable length-known (f .variables .variables))
+      (variables-zeros vs) 2 variablesRoom (variable-two refTag placeIn) (variable-two noNumber noNumber) (f .variables .variables))
+      (parts.more (cells-fit refTag placeIn (within f))
       (put-room (putCells vs) (cellWords refTag placeIn) (cellWords noNumber noNumber) (Accounts.putCell value) cell-put
-      (cells-zeros vs) 4 128 length-cell length-kept (f .cells .cells))
+      (cells-zeros vs) 4 cellsRoom (cell-four refTag placeIn) (cell-four noNumber noNumber) (f .cells .cells))
+      parts.none))))
 
 -- word 3 of an answer is its steps
-length-known-outcome : (o : Outcome ⊥) → length (outcomeWords noNumber noNumber o) ≡ 3
-unfolding outcomeWords endWords
-length-known-outcome (ended (returned v)) = ap suc (length-constant v)
-length-known-outcome (ended (failed v)) = ap suc (length-constant v)
-length-known-outcome (ended vanished) = refl
-length-known-outcome (ended (error n)) = refl
-length-known-outcome (cut why) = refl
-
-regroup : (o s z c v d y : List ℕ) → ((o ++ s) ++ z) ++ c ++ v ++ d ++ y ≡ o ++ (s ++ (z ++ (c ++ (v ++ (d ++ y)))))
-regroup o s z c v d y = simp append-assoc
-
 steps-among :
-    (o : List ℕ) (s : ℕ) (m z c v d y x : List ℕ)
-    → gather wordBytes (((o ++ (s ∷ m)) ++ z) ++ c ++ v ++ d ++ y) ++ x
-    ≡ gather wordBytes o ++ (wordBytes s ++ (gather wordBytes (m ++ (z ++ (c ++ (v ++ (d ++ y))))) ++ x))
+    (o : List ℕ) (s : ℕ) (m z y x : List ℕ)
+    → gather wordBytes (((o ++ (s ∷ m)) ++ z) ++ y) ++ x
+    ≡ gather wordBytes o ++ (wordBytes s ++ (gather wordBytes (m ++ (z ++ y)) ++ x))
 unfolding gather
-steps-among o s m z c v d y x =
-    ap (λ (l : List ℕ). gather wordBytes l ++ x) (regroup o (s ∷ m) z c v d y)
-    ∙ ap (λ (l : List ℕ). l ++ x) (gather-append wordBytes o (s ∷ (m ++ (z ++ (c ++ (v ++ (d ++ y)))))))
+steps-among o s m z y x =
+    let apart : ((o ++ (s ∷ m)) ++ z) ++ y ≡ o ++ (s ∷ (m ++ (z ++ y))) = simp append-assoc in
+    ap (λ (l : List ℕ). gather wordBytes l ++ x) apart
+    ∙ ap (λ (l : List ℕ). l ++ x) (gather-append wordBytes o (s ∷ (m ++ (z ++ y))))
     ∙ simp append-assoc
 
 pub answer-steps : (q : Row ⊥) → q .steps < 4294967296 → (x : List ℕ) → wordAt (answerBytes q ++ x) 12 ≡ q .steps
-unfolding answerBytes rowBytes rowWords headWords room
+unfolding answerBytes rowBytes rowWords rowParts partsWords headWords room
 answer-steps q h x =
     let o : List ℕ = outcomeWords noNumber noNumber (q .outcome) in
-    let twelve : 12 ≡ length (gather wordBytes o) = sym (length-words o ∙ ap (λ (n : ℕ). 4 * n) (length-known-outcome (q .outcome))) in
-    ap (λ (l : List ℕ). wordAt l 12) (steps-among o (q .steps) _ _ _ _ _ _ x)
+    let twelve : 12 ≡ length (gather wordBytes o) = sym (length-words o ∙ ap (λ (n : ℕ). 4 * n) (outcome-three noNumber noNumber (q .outcome))) in
+    ap (λ (l : List ℕ). wordAt l 12) (steps-among o (q .steps) _ _ _ x)
     ∙ ap (wordAt _) twelve
     ∙ wordAt-bytes (gather wordBytes o) _ (q .steps) h

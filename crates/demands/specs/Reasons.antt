@@ -1,10 +1,10 @@
 -- "Numbered refusals, in the order tested": the reasons for which a call refuses, each a constructor with its number, in document 01's
 -- words; and what it is to refuse by the first of them that holds. Definitions only. Assumes nothing.
-use Prim.Native.Nat.{ℕ, _≤_, _<_}
+use Prim.Native.Nat.{ℕ, _+_, _≤_, _<_}
 use mathlib.Core.Path.{_≡_}
 use mathlib.Core.Logic.{_↔_, _⊎_}
 use mathlib.Core.Bool.{Bool, true, _||_}
-use mathlib.Core.List.{List, _∷_, _++_}
+use mathlib.Core.List.{List, [], _∷_, _++_}
 use lib.ListN.{length, drop, replicate}
 use lib.Dec.{ltb}
 use Rattle.gil.specs.Tree.{Proc, Name}
@@ -16,7 +16,7 @@ use Rattle.gil.specs.Plain.{plainRun}
 use Rattle.gil.specs.Explore.{Turn, finishes, explored, Exploring, exploring, turnIn}
 use Rattle.gil.specs.Pool.{Ref, Pool, pooled, table}
 use Rattle.gil.specs.Accounts.{explorationAfter}
-use Rattle.gil.specs.Numbers.{tableLength, poolLength, answerLength}
+use Rattle.gil.specs.Numbers.{mostBytes, mostRows, mostTerms, forBudgets, forLists, forLength, forForm, forLimits, forNames, forJump, forEnd, forRows, forTerms, lastRefusal, firstRow, tableLength, poolLength, answerLength}
 use Rattle.gil.specs.Layout.{tableBytes, poolBytes, answerBytes, inputWords}
 use Rattle.gil.specs.Calls as Calls
 use Rattle.gil.specs.Calls.{PlainAnswer, TableAnswer}
@@ -24,17 +24,17 @@ use Rattle.gil.specs.Calls.{PlainAnswer, TableAnswer}
 -- 3 to 8, of a text
 pub data TextReason (text : List ℕ) : ℕ → Type 0 where
   -- "text longer than 16,384 bytes"
-  tooLong : 16384 < length text → TextReason text 3
+  tooLong : mostBytes < length text → TextReason text forLength
   -- "text is not of the form above"
-  notOfTheForm : procedures text ≡ faulty → TextReason text 4
+  notOfTheForm : procedures text ≡ faulty → TextReason text forForm
   -- "over 16 procedures, 512 commands in all, 16 variables in a procedure (parameter included), or 32 distinct properties"
-  overALimit : {ps : List (Proc Name)} {next : ℕ} → procedures text ≡ read ps next → overLimits ps ≡ true → TextReason text 5
+  overALimit : {ps : List (Proc Name)} {next : ℕ} → procedures text ≡ read ps next → overLimits ps ≡ true → TextReason text forLimits
   -- "two procedures of one name, a call of a procedure that is not there, or no `main`"
-  wrongName : {ps : List (Proc Name)} {next : ℕ} → procedures text ≡ read ps next → wrongNames ps ≡ true → TextReason text 6
+  wrongName : {ps : List (Proc Name)} {next : ℕ} → procedures text ≡ read ps next → wrongNames ps ≡ true → TextReason text forNames
   -- "a jump number not below its procedure's count of commands"
-  jumpsPast : {ps : List (Proc Name)} {next : ℕ} → procedures text ≡ read ps next → wrongJump ps ≡ true → TextReason text 7
+  jumpsPast : {ps : List (Proc Name)} {next : ℕ} → procedures text ≡ read ps next → wrongJump ps ≡ true → TextReason text forJump
   -- "a procedure whose last command is not return, fail or vanish"
-  endsOpen : {ps : List (Proc Name)} {next : ℕ} → procedures text ≡ read ps next → wrongEnd ps ≡ true → TextReason text 8
+  endsOpen : {ps : List (Proc Name)} {next : ℕ} → procedures text ≡ read ps next → wrongEnd ps ≡ true → TextReason text forEnd
 
 -- the terms there are after a path's next command, and what the path comes to by it
 unfoldable pub termsAfter : Program → Pool → Path Ref → Pool
@@ -51,22 +51,22 @@ pub data Overruns (p : Program) (budget most : ℕ) : ℕ → Exploring Pool Ref
   rowOfCut :
       {w : Pool} {rows : List (Row Ref)} {q : Path Ref} {qs : List (Path Ref)}
       → budget ≤ q .steps
-      → 64 ≤ length rows
-      → Overruns p budget most 9 (exploring w rows (q ∷ qs))
+      → mostRows ≤ length rows
+      → Overruns p budget most forRows (exploring w rows (q ∷ qs))
   -- or its command finishes it; "a command makes its terms before it finishes a row"
   rowOfCommand :
       {w : Pool} {rows : List (Row Ref)} {q : Path Ref} {qs : List (Path Ref)} {r : Row Ref}
       → q .steps < budget
-      → length (termsAfter p w q) ≤ 2048
+      → length (termsAfter p w q) ≤ mostTerms
       → turnAfter p most w q ≡ finishes r
-      → 64 ≤ length rows
-      → Overruns p budget most 9 (exploring w rows (q ∷ qs))
+      → mostRows ≤ length rows
+      → Overruns p budget most forRows (exploring w rows (q ∷ qs))
   -- "a 2,049th term would be made"
   termOfCommand :
       {w : Pool} {rows : List (Row Ref)} {q : Path Ref} {qs : List (Path Ref)}
       → q .steps < budget
-      → 2048 < length (termsAfter p w q)
-      → Overruns p budget most 10 (exploring w rows (q ∷ qs))
+      → mostTerms < length (termsAfter p w q)
+      → Overruns p budget most forTerms (exploring w rows (q ∷ qs))
 
 -- of an accepted text: its exploration overruns after so many commands. "Of 9 and 10 the one that comes first in exploration order is
 -- given": the exploration goes no further than its first overrun.
@@ -81,9 +81,9 @@ pub data Never : ℕ → Type 0 where
 -- 1 to 10, of a call whose budgets or lists are wrong, or not
 pub data Reason (budgets lists : Bool) (text : List ℕ) (Late : ℕ → Type 0) : ℕ → Type 0 where
   -- "explore/place: steps not 1 to 1,024, or branches above 16; plain run: steps above 1,024"
-  ofBudgets : budgets ≡ true → Reason budgets lists text Late 1
+  ofBudgets : budgets ≡ true → Reason budgets lists text Late forBudgets
   -- "a lent buffer is shorter than the call needs, or the input list is not sixteen long"
-  ofLists : lists ≡ true → Reason budgets lists text Late 2
+  ofLists : lists ≡ true → Reason budgets lists text Late forLists
   -- 3 to 8, and 9 and 10
   ofText : {n : ℕ} → TextReason text n → Reason budgets lists text Late n
   ofExploring : {n : ℕ} → Late n → Reason budgets lists text Late n
@@ -109,28 +109,40 @@ abbrev pub Zero : ℕ → Type 0
 Zero r = r ≡ 0
 
 abbrev pub ARow : ℕ → Type 0
-ARow r = (256 ≤ r) × (r < 320)
+ARow r = (firstRow ≤ r) × (r < firstRow + mostRows)
 
--- the first reason that holds
-abbrev pub First : (ℕ → Type 0) → ℕ → Type 0
-First R n = R n × ((m : ℕ) → m < n → R m → ⊥)
+-- the refusals of each call, "in the order tested"
+abbrev pub textRefusals : List ℕ
+textRefusals = forLength ∷ forForm ∷ forLimits ∷ forNames ∷ forJump ∷ forEnd ∷ []
+
+abbrev pub plainRefusals : List ℕ
+plainRefusals = forBudgets ∷ forLists ∷ textRefusals
+
+abbrev pub exploreRefusals : List ℕ
+exploreRefusals =
+    forBudgets ∷ forLists ∷ forLength ∷ forForm ∷ forLimits ∷ forNames ∷ forJump ∷ forEnd ∷ forRows ∷ forTerms ∷ []
+
+-- the first number of a list whose reason holds
+pub data First (R : ℕ → Type 0) : List ℕ → ℕ → Type 0 where
+  holds : {n : ℕ} {later : List ℕ} → R n → First R (n ∷ later) n
+  passes : {m n : ℕ} {later : List ℕ} → (R m → ⊥) → First R later n → First R (m ∷ later) n
 
 -- "refuses by the numbered reason that comes first in our document's order, and only where one holds": a call with the reasons `R`, which
--- may refuse by `lowest` to `highest`
-pub record Refuses (R : ℕ → Type 0) (lowest highest : ℕ) (Success : ℕ → Type 0) (returns : ℕ) : Type 0 where
-  -- it returns n exactly if n is the first reason that holds
-  pub exactly : (n : ℕ) → 1 ≤ n → n ≤ 10 → (returns ≡ n) ↔ First R n
-  -- it succeeds exactly if none holds
+-- may refuse by the numbers of `order`, in that order
+pub record Refuses (R : ℕ → Type 0) (order : List ℕ) (Success : ℕ → Type 0) (returns : ℕ) : Type 0 where
+  -- it returns n exactly if n is the first of them whose reason holds
+  pub exactly : (n : ℕ) → 1 ≤ n → n ≤ lastRefusal → (returns ≡ n) ↔ First R order n
+  -- it succeeds exactly if no reason holds
   pub otherwise : Success returns ↔ ((n : ℕ) → R n → ⊥)
   -- and there is nothing else that it returns
-  pub nothingElse : Success returns ⊎ ((lowest ≤ returns) × (returns ≤ highest))
+  pub nothingElse : Success returns ⊎ First R order returns
 
 -- "Refusals 1 to 8 leave lent memory untouched; 9 and 10 leave table and pool zero": the needed part of them; "a buffer longer than needed
 -- keeps its surplus"
 pub record Leaves (lentTable lentPool : List ℕ) (a : TableAnswer) : Type 0 where
-  pub untouched : 1 ≤ a .returns → a .returns ≤ 8 → (a .table ≡ lentTable) × (a .pool ≡ lentPool)
+  pub untouched : forBudgets ≤ a .returns → a .returns ≤ forEnd → (a .table ≡ lentTable) × (a .pool ≡ lentPool)
   pub zero :
-      9 ≤ a .returns → a .returns ≤ 10
+      forRows ≤ a .returns → a .returns ≤ forTerms
       → (a .table ≡ replicate tableLength 0 ++ drop tableLength lentTable) × (a .pool ≡ replicate poolLength 0 ++ drop poolLength lentPool)
 
 -- what a call is where it does not refuse: the plain run's answer, and the table and pool of the definitions

@@ -1,14 +1,12 @@
 -- The definitions of the calls refuse by the first reason that holds, and come to the definitions' answers where none does: the proofs
 -- behind demands 1 and 2. Assumes nothing.
-use Prim.Native.Nat.{ℕ, zero, suc, _+_, _≤_, _<_}
+use Prim.Native.Nat.{ℕ, zero, suc, _+_, _-_, _≤_, _<_}
 use native.Mathlib.Omega.{arith}
 use mathlib.Core.Path.{_≡_, refl, sym, _∙_, subst}
 use mathlib.Core.Logic.{inl, inr}
-use mathlib.Core.Bool.{Bool, true, false, not, _&&_, _||_}
+use mathlib.Core.Bool.{Bool, true, false}
 use mathlib.Core.List.{List, _++_}
 use lib.ListN.{length, drop, replicate}
-use lib.Dec.{ltb, leb}
-use borrow.Author.Tests.{ltb-true, ltb-false, leb-true}
 use Rattle.gil.specs.Names.{Program, Checked, refused, accepted, checkText}
 use Rattle.gil.specs.Rows.{Row}
 use Rattle.gil.specs.Explore as Explore
@@ -16,54 +14,56 @@ use Rattle.gil.specs.Explore.{Explored, explored}
 use Rattle.gil.specs.Pool.{Ref, Pool, table, placed}
 use Rattle.gil.specs.Demand3.{of-the-table}
 use Rattle.gil.specs.Theory.Tests.{no-false}
+use Rattle.gil.specs.Theory.Given.{budgets-small}
 use Rattle.gil.specs.Plain.{plainRun}
-use Rattle.gil.specs.Numbers.{tableLength, poolLength, answerLength}
+use Rattle.gil.specs.Numbers.{forBudgets, forLists, forLength, forEnd, forRows, forTerms, lastRefusal, firstRow, tableLength, poolLength, answerLength}
 use Rattle.gil.specs.Layout.{tableBytes, poolBytes, answerBytes, inputWords}
 use Rattle.gil.specs.Calls as Calls
 use Rattle.gil.specs.Calls.{firstOf, TableAnswer, PlainAnswer}
 use Rattle.machine_code.specs.Accepted.{accepted-well-formed}
-use Rattle.table_locate.specs.Sound.{Sound}
-use Rattle.table_locate.specs.Exploring.{exploring-sound}
+use Rattle.table_locate.specs.Laws.Sound.{Sound}
+use Rattle.table_locate.specs.Laws.Exploring.{exploring-sound}
 use Rattle.demands.specs.Rows.{stands-below}
-use Rattle.demands.specs.Reasons.{TextReason, Overrun, after, Never, Reason, ofBudgets, ofLists, ofText, ofExploring, PlainReason, ExploreReason, PlaceReason, Zero, ARow, First, Refuses, Leaves, RunsAs, ExploresAs}
+use Rattle.demands.specs.Reasons.{TextReason, Overrun, after, Never, Reason, ofBudgets, ofLists, ofText, ofExploring, PlainReason, ExploreReason, PlaceReason, Zero, ARow, textRefusals, plainRefusals, exploreRefusals, First, Refuses, Leaves, RunsAs, ExploresAs}
+use Rattle.demands.specs.Orders.{first-holds, first-same, Lowest, rising, lowest-first}
 use Rattle.demands.specs.Texts.{text-range, TextOutcome, isWrong, isRight, text-outcome}
 use Rattle.demands.specs.Overruns.{table-overruns, overruns-range, overrun-table, overrun-late}
 
--- The first reason is one only
-first-same : {R : ℕ → Type 0} {m n : ℕ} → First R m → First R n → m ≡ n
-first-same {R} {m} {n} (r, f) (s, g) = at (ltb m n) refl (ltb n m) refl
-  where
-    at : (b : Bool) → ltb m n ≡ b → (c : Bool) → ltb n m ≡ c → m ≡ n
-    at true e c d = absurd (g m (ltb-true m n e) r)
-    at false e true d = absurd (f n (ltb-true n m d) s)
-    at false e false d = omega (arith, ltb-false m n e, ltb-false n m d)
-
 -- what a call comes to: refused by the first reason, or a success with none
-pub data Outcome (R Success : ℕ → Type 0) (returns : ℕ) : Type 0 where
-  refusal : First R returns → Outcome R Success returns
-  success : ((n : ℕ) → R n → ⊥) → Success returns → Outcome R Success returns
+pub data Outcome (R : ℕ → Type 0) (order : List ℕ) (Success : ℕ → Type 0) (returns : ℕ) : Type 0 where
+  refusal : First R order returns → 1 ≤ returns → returns ≤ lastRefusal → Outcome R order Success returns
+  success : ((n : ℕ) → R n → ⊥) → Success returns → Outcome R order Success returns
 
-module _ {R Success : ℕ → Type 0} (lowest highest : ℕ) (range : (n : ℕ) → R n → (lowest ≤ n) × (n ≤ highest)) where
-  pub refuses :
-      {returns : ℕ} → 1 ≤ lowest → highest ≤ 10 → (Success returns → 1 ≤ returns → returns ≤ 10 → ⊥) → Outcome R Success returns
-      → Refuses R lowest highest Success returns
-  refuses {returns} low high apart (refusal f) =
-      let (l, h) = range returns (f .0) in
-      record {
-        exactly = λ n _ _. (λ e. subst (First R) e f, λ g. first-same f g);
-        otherwise = (λ s. absurd (apart s (omega arith) (omega arith)), λ no-reason. absurd (no-reason returns (f .0)));
-        nothingElse = inr (l, h);
-      }
-  refuses {returns} low high apart (success no-reason s) =
-      record {
-        exactly = λ n l h. (λ e. absurd (apart s (omega arith) (omega arith)), λ g. absurd (no-reason n (g .0)));
-        otherwise = (λ _. no-reason, λ _. s);
-        nothingElse = inl s;
-      }
+-- whatever the order
+pub refuses :
+    {R Success : ℕ → Type 0} {order : List ℕ} {returns : ℕ} → (Success returns → 1 ≤ returns → returns ≤ lastRefusal → ⊥)
+    → Outcome R order Success returns → Refuses R order Success returns
+refuses {R} {order = order} {returns} apart (refusal f low high) =
+    record {
+      exactly = λ n _ _. (λ e. subst (First R order) e f, λ g. first-same f g);
+      otherwise = (λ s. absurd (apart s low high), λ no-reason. absurd (no-reason returns (first-holds f)));
+      nothingElse = inr f;
+    }
+refuses apart (success no-reason s) =
+    record {
+      exactly = λ n l h. (λ e. absurd (apart s (omega arith) (omega arith)), λ g. absurd (no-reason n (first-holds g)));
+      otherwise = (λ _. no-reason, λ _. s);
+      nothingElse = inl s;
+    }
+
+-- in the order of the numbers, `lowest` to `highest`
+module _
+    {R Success : ℕ → Type 0} (lowest highest : ℕ) (low : 1 ≤ lowest) (high : highest ≤ lastRefusal)
+    (range : (n : ℕ) → R n → (lowest ≤ n) × (n ≤ highest))
+  where
+    by-number : {returns : ℕ} → Lowest R returns → Outcome R (rising lowest (suc highest - lowest)) Success returns
+    by-number {returns} f =
+        let (l, h) = range returns (f .0) in
+        refusal (lowest-first lowest (suc highest - lowest) f l (omega arith)) (omega arith) (omega arith)
 
 -- All reasons of a call
 module _ {b c : Bool} {text : List ℕ} {Late : ℕ → Type 0} where
-  pub reason-range : (h : ℕ) → 8 ≤ h → ((n : ℕ) → Late n → (9 ≤ n) × (n ≤ h)) → (n : ℕ) → Reason b c text Late n → (1 ≤ n) × (n ≤ h)
+  pub reason-range : (h : ℕ) → forEnd ≤ h → ((n : ℕ) → Late n → (forRows ≤ n) × (n ≤ h)) → (n : ℕ) → Reason b c text Late n → (1 ≤ n) × (n ≤ h)
   reason-range h l late n (ofBudgets e) = omega arith
   reason-range h l late n (ofLists e) = omega arith
   reason-range h l late n (ofText r) = let (f, g) = text-range r in omega arith
@@ -72,8 +72,8 @@ module _ {b c : Bool} {text : List ℕ} {Late : ℕ → Type 0} where
   -- no reason before number k, where there is none of each kind
   reason-below :
       (k : ℕ)
-      → (1 < k → b ≡ false)
-      → (2 < k → c ≡ false)
+      → (forBudgets < k → b ≡ false)
+      → (forLists < k → c ≡ false)
       → ((m : ℕ) → m < k → TextReason text m → ⊥)
       → ((m : ℕ) → m < k → Late m → ⊥)
       → (m : ℕ)
@@ -87,17 +87,17 @@ module _ {b c : Bool} {text : List ℕ} {Late : ℕ → Type 0} where
 
 -- 1 and 2 come before the text, and the text before the exploration
 pub data CallOutcome (b c : Bool) (text : List ℕ) (Late : ℕ → Type 0) : Checked → Type 0 where
-  early : {n : ℕ} → First (Reason b c text Late) n → n ≤ 8 → CallOutcome b c text Late (refused n)
+  early : {n : ℕ} → Lowest (Reason b c text Late) n → n ≤ forEnd → CallOutcome b c text Late (refused n)
   goesOn :
       {p : Program} → checkText text ≡ accepted p
       → ((k : ℕ) → ((m : ℕ) → m < k → Late m → ⊥) → (m : ℕ) → m < k → Reason b c text Late m → ⊥)
       → CallOutcome b c text Late (accepted p)
 
-module _ (text : List ℕ) {Late : ℕ → Type 0} (late : (n : ℕ) → Late n → 9 ≤ n) where
-  not-late : (k : ℕ) → k ≤ 9 → (m : ℕ) → m < k → Late m → ⊥
-  not-late k h m l r = let f : 9 ≤ m = late m r in omega arith
+module _ (text : List ℕ) {Late : ℕ → Type 0} (late : (n : ℕ) → Late n → forRows ≤ n) where
+  not-late : (k : ℕ) → k ≤ forRows → (m : ℕ) → m < k → Late m → ⊥
+  not-late k h m l r = let f : forRows ≤ m = late m r in omega arith
 
-  not-text : (k : ℕ) → k ≤ 3 → (m : ℕ) → m < k → TextReason text m → ⊥
+  not-text : (k : ℕ) → k ≤ forLength → (m : ℕ) → m < k → TextReason text m → ⊥
   not-text k h m l r = let (f, g) = text-range r in omega arith
 
   of-text : (t : Checked) → checkText text ≡ t → TextOutcome text t → CallOutcome false false text Late t
@@ -111,11 +111,11 @@ module _ (text : List ℕ) {Late : ℕ → Type 0} (late : (n : ℕ) → Late n 
   call-outcome true c =
       early (
         ofBudgets refl,
-        reason-below 1 (λ h. absurd (omega arith)) (λ h. absurd (omega arith)) (not-text 1 (omega arith)) (not-late 1 (omega arith)),
+        reason-below forBudgets (λ h. absurd (omega arith)) (λ h. absurd (omega arith)) (not-text forBudgets (omega arith)) (not-late forBudgets (omega arith)),
       )
       (omega arith)
   call-outcome false true =
-      early (ofLists refl, reason-below 2 (λ _. refl) (λ h. absurd (omega arith)) (not-text 2 (omega arith)) (not-late 2 (omega arith)))
+      early (ofLists refl, reason-below forLists (λ _. refl) (λ h. absurd (omega arith)) (not-text forLists (omega arith)) (not-late forLists (omega arith)))
       (omega arith)
   call-outcome false false = of-text (checkText text) refl (text-outcome text)
 
@@ -128,19 +128,21 @@ none : {b c : Bool} {text : List ℕ} → ((k : ℕ) → ((m : ℕ) → m < k �
 none f n = f (suc n) (λ m _. never) n (omega arith)
 
 -- check
-check-from : {text : List ℕ} {t : Checked} → TextOutcome text t → Outcome (TextReason text) Zero (Calls.textAnswer t)
-unfolding Calls.textAnswer
-check-from (isWrong f) = refusal f
+check-from : {text : List ℕ} {t : Checked} → TextOutcome text t → Outcome (TextReason text) textRefusals Zero (Calls.textAnswer t)
+unfolding Calls.textAnswer rising
+check-from (isWrong f) = by-number forLength forEnd (omega arith) (omega arith) (λ n. text-range) f
 check-from (isRight f) = success f refl
 
-pub check-refuses : (text : List ℕ) → Refuses (TextReason text) 3 8 Zero (Calls.checkCall text)
+pub check-refuses : (text : List ℕ) → Refuses (TextReason text) textRefusals Zero (Calls.checkCall text)
 unfolding Calls.checkCall
-check-refuses text =
-    refuses 3 8 (λ n. text-range) (omega arith) (omega arith) (λ e l h. omega arith) (check-from (text-outcome text))
+check-refuses text = refuses (λ e l h. omega arith) (check-from (text-outcome text))
+
+pub plain-range : {b c : Bool} {text : List ℕ} (n : ℕ) → Reason b c text Never n → (forBudgets ≤ n) × (n ≤ forEnd)
+plain-range = reason-range forEnd (omega arith) (λ n. never)
 
 -- plain run: all that it comes to
 pub data PlainOutcome (R : ℕ → Type 0) (text inputs : List ℕ) (budget : ℕ) (answer : List ℕ) : PlainAnswer → Type 0 where
-  notRun : {n : ℕ} → First R n → n ≤ 8 → PlainOutcome R text inputs budget answer (record { returns = n; answer = answer })
+  notRun : {n : ℕ} → Lowest R n → n ≤ forEnd → PlainOutcome R text inputs budget answer (record { returns = n; answer = answer })
   run :
       {p : Program} → ((n : ℕ) → R n → ⊥) → checkText text ≡ accepted p
       → PlainOutcome R text inputs budget answer
@@ -155,9 +157,12 @@ module _ (text inputs : List ℕ) (budget : ℕ) (answer : List ℕ) {b c : Bool
   plain-on (accepted p) (goesOn e f) = run (none f) e
 
 module _ {R : ℕ → Type 0} {text inputs : List ℕ} {budget : ℕ} {answer : List ℕ} where
-  plain-outcome : {a : PlainAnswer} → PlainOutcome R text inputs budget answer a → Outcome R Zero (a .returns)
-  plain-outcome (notRun f h) = refusal f
-  plain-outcome (run f e) = success f refl
+  plain-outcome :
+      ((n : ℕ) → R n → (forBudgets ≤ n) × (n ≤ forEnd)) → {a : PlainAnswer} → PlainOutcome R text inputs budget answer a
+      → Outcome R plainRefusals Zero (a .returns)
+  unfolding rising
+  plain-outcome range (notRun f h) = by-number forBudgets forEnd (omega arith) (omega arith) range f
+  plain-outcome range (run f e) = success f refl
 
   plain-keeps : {a : PlainAnswer} → PlainOutcome R text inputs budget answer a → 1 ≤ a .returns → a .answer ≡ answer
   plain-keeps (notRun f h) l = refl
@@ -172,9 +177,9 @@ module _ (text inputs : List ℕ) (budget : ℕ) (answer : List ℕ) where
   unfolding Calls.plainCall
   plain-comes = plain-on text inputs budget answer _ (call-outcome text (λ n. never) _ _)
 
-  pub plain-refuses : Refuses (PlainReason text inputs budget answer) 1 8 Zero (Calls.plainCall text inputs budget answer .returns)
-  plain-refuses =
-      refuses 1 8 (reason-range 8 (omega arith) (λ n. never)) (omega arith) (omega arith) (λ e l h. omega arith) (plain-outcome plain-comes)
+  pub plain-refuses :
+      Refuses (PlainReason text inputs budget answer) plainRefusals Zero (Calls.plainCall text inputs budget answer .returns)
+  plain-refuses = refuses (λ e l h. omega arith) (plain-outcome plain-range plain-comes)
 
   pub plain-untouched : 1 ≤ Calls.plainCall text inputs budget answer .returns → Calls.plainCall text inputs budget answer .answer ≡ answer
   plain-untouched = plain-keeps plain-comes
@@ -187,9 +192,9 @@ module _ (text inputs : List ℕ) (budget : ℕ) (answer : List ℕ) where
 pub data TablesOutcome
     (R : ℕ → Type 0) (success : Pool → List (Row Ref) → ℕ) (text : List ℕ) (budget most : ℕ) (t w : List ℕ)
     : TableAnswer → Type 0 where
-  notExplored : {n : ℕ} → First R n → n ≤ 8 → TablesOutcome R success text budget most t w (record { returns = n; table = t; pool = w })
+  notExplored : {n : ℕ} → Lowest R n → n ≤ forEnd → TablesOutcome R success text budget most t w (record { returns = n; table = t; pool = w })
   overrun :
-      {n : ℕ} → First R n → 9 ≤ n
+      {n : ℕ} → Lowest R n → forRows ≤ n
       → TablesOutcome R success text budget most t w
       (record { returns = n; table = replicate tableLength 0 ++ drop tableLength t; pool = replicate poolLength 0 ++ drop poolLength w })
   tabled :
@@ -235,18 +240,20 @@ module _ (success : Pool → List (Row Ref) → ℕ) (text : List ℕ) (budget m
 
 module _ {R : ℕ → Type 0} {succeed : Pool → List (Row Ref) → ℕ} {text : List ℕ} {budget most : ℕ} {t w : List ℕ} where
   tables-outcome :
-      {a : TableAnswer} {Success : ℕ → Type 0}
+      ((n : ℕ) → R n → (forBudgets ≤ n) × (n ≤ forTerms))
+      → {a : TableAnswer} {Success : ℕ → Type 0}
       → ((p : Program) (terms : Pool) (rows : List (Row Ref)) → ((n : ℕ) → R n → ⊥) → checkText text ≡ accepted p
       → table p budget most ≡ explored terms rows → Success (succeed terms rows))
       → TablesOutcome R succeed text budget most t w a
-      → Outcome R Success (a .returns)
-  tables-outcome s (notExplored f h) = refusal f
-  tables-outcome s (overrun f h) = refusal f
-  tables-outcome s (tabled {p} {terms} {rows} f e g) = success f (s p terms rows f e g)
+      → Outcome R exploreRefusals Success (a .returns)
+  unfolding rising
+  tables-outcome range s (notExplored f h) = by-number forBudgets forTerms (omega arith) (omega arith) range f
+  tables-outcome range s (overrun f h) = by-number forBudgets forTerms (omega arith) (omega arith) range f
+  tables-outcome range s (tabled {p} {terms} {rows} f e g) = success f (s p terms rows f e g)
 
   -- a success is no refusal's number
   tables-leave :
-      {a : TableAnswer} → ((terms : Pool) (rows : List (Row Ref)) → 1 ≤ succeed terms rows → succeed terms rows ≤ 10 → ⊥)
+      {a : TableAnswer} → ((terms : Pool) (rows : List (Row Ref)) → 1 ≤ succeed terms rows → succeed terms rows ≤ forTerms → ⊥)
       → TablesOutcome R succeed text budget most t w a → Leaves t w a
   tables-leave s (notExplored f h) = record { untouched = λ _ _. (refl, refl); zero = λ l _. absurd (omega arith) }
   tables-leave s (overrun f h) = record { untouched = λ _ g. absurd (omega arith); zero = λ _ _. (refl, refl) }
@@ -263,17 +270,9 @@ module _ {R : ℕ → Type 0} {succeed : Pool → List (Row Ref) → ℕ} {text 
   tables-as (tabled {p} {terms} {rows} f e d) g =
       record { program = p; terms = terms; rows = rows; reads = e; explores = d; is = refl }
 
--- budgets that are not refused, and the rows there are then
-budgets-within : (budget most : ℕ) → (Calls.wrongBudgets budget most ≡ true → ⊥) → (budget ≤ 1024) × (most ≤ 16)
-unfolding Calls.wrongBudgets
-budgets-within budget most f = at (leb 1 budget) (leb budget 1024) refl (ltb 16 most) refl f
-  where
-    at :
-        (a b : Bool) → leb budget 1024 ≡ b → (c : Bool) → ltb 16 most ≡ c → (not (a && b) || c ≡ true → ⊥) → (budget ≤ 1024) × (most ≤ 16)
-    at true true d false e g = (leb-true budget 1024 d, ltb-false 16 most e)
-    at true true d true e g = absurd (g refl)
-    at true false d c e g = absurd (g refl)
-    at false b d c e g = absurd (g refl)
+refuted : (b : Bool) → (b ≡ true → ⊥) → b ≡ false
+refuted true f = absurd (f refl)
+refuted false f = refl
 
 -- the table of an accepted text is sound
 pub sound-table :
@@ -283,7 +282,7 @@ pub sound-table :
     → table p budget most ≡ explored terms rows
     → Sound terms rows
 sound-table text budget most right {p} reads explores =
-    let (small, few) = budgets-within budget most right in
+    let (small, few) = budgets-small budget most (refuted (Calls.wrongBudgets budget most) right) in
     exploring-sound budget most (accepted-well-formed text p reads) small few explores
 
 pub placed-row :
@@ -291,12 +290,15 @@ pub placed-row :
     → {p : Program} {terms : Pool} {rows : List (Row Ref)}
     → checkText text ≡ accepted p
     → table p budget most ≡ explored terms rows
-    → (256 ≤ 256 + placed inputs terms rows) × (256 + placed inputs terms rows < 320)
+    → ARow (firstRow + placed inputs terms rows)
 placed-row text budget most right inputs {p} {terms} {rows} reads explores =
     let s : Sound terms rows = sound-table text budget most right reads explores in
     let (a, e) = of-the-table p budget most inputs terms rows explores in
     let h : a .place < length rows = stands-below (a .stands) in
     omega (arith, s .fewRows)
+
+pub explore-range : {b c : Bool} {text : List ℕ} {budget most : ℕ} (n : ℕ) → Reason b c text (Overrun text budget most) n → (forBudgets ≤ n) × (n ≤ forTerms)
+explore-range = reason-range forTerms (omega arith) overrun-late
 
 module _ (text : List ℕ) (budget most : ℕ) (t w : List ℕ) where
   explore-comes : TablesOutcome (ExploreReason text budget most t w) Calls.succeeds text budget most t w (Calls.exploreCall text budget most t w)
@@ -304,11 +306,10 @@ module _ (text : List ℕ) (budget most : ℕ) (t w : List ℕ) where
   explore-comes = tables-on Calls.succeeds text budget most t w _ (call-outcome text (λ n r. overrun-late n r .0) _ _)
 
   pub explore-refuses :
-      Refuses (ExploreReason text budget most t w) 1 10 Zero (Calls.exploreCall text budget most t w .returns)
+      Refuses (ExploreReason text budget most t w) exploreRefusals Zero (Calls.exploreCall text budget most t w .returns)
   unfolding Calls.succeeds
   explore-refuses =
-      refuses 1 10 (reason-range 10 (omega arith) overrun-late) (omega arith) (omega arith) (λ e l h. omega arith)
-      (tables-outcome (λ p terms rows none e g. refl) explore-comes)
+      refuses (λ e l h. omega arith) (tables-outcome explore-range (λ p terms rows none e g. refl) explore-comes)
 
   pub explore-leaves : Leaves t w (Calls.exploreCall text budget most t w)
   unfolding Calls.succeeds
@@ -327,11 +328,11 @@ module _ (text inputs : List ℕ) (budget most : ℕ) (t w : List ℕ) where
   place-comes = tables-on (Calls.placesIn inputs) text budget most t w _ (call-outcome text (λ n r. overrun-late n r .0) _ _)
 
   pub place-refuses :
-      Refuses (PlaceReason text inputs budget most t w) 1 10 ARow (Calls.placeCall text inputs budget most t w .returns)
+      Refuses (PlaceReason text inputs budget most t w) exploreRefusals ARow (Calls.placeCall text inputs budget most t w .returns)
   unfolding Calls.placesIn
   place-refuses =
-      refuses 1 10 (reason-range 10 (omega arith) overrun-late) (omega arith) (omega arith) (λ e l h. omega arith)
-      (tables-outcome (λ p terms rows none e g. placed-row text budget most (λ d. none 1 (ofBudgets d)) (inputWords inputs) e g) place-comes)
+      refuses (λ e l h. omega arith)
+      (tables-outcome explore-range (λ p terms rows none e g. placed-row text budget most (λ d. none forBudgets (ofBudgets d)) (inputWords inputs) e g) place-comes)
 
   pub place-leaves : Leaves t w (Calls.placeCall text inputs budget most t w)
   unfolding Calls.placesIn

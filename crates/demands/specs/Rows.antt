@@ -4,7 +4,7 @@ use Prim.Native.Nat.{ℕ, zero, suc, _+_, _*_, _≤_, _<_}
 use native.Mathlib.Omega.{arith}
 use mathlib.Core.Path.{_≡_, refl, sym, _∙_, ap, ap₂, subst}
 use mathlib.Core.Bool.{true}
-use mathlib.Core.List.{List, [], _∷_, _++_, append-assoc}
+use mathlib.Core.List.{List, [], _∷_, _++_}
 use lib.ListN.{length, getD}
 use Rattle.gil.specs.Names.{Program, gather}
 use Rattle.gil.specs.Values.{Constant}
@@ -12,15 +12,16 @@ use Rattle.gil.specs.Rows.{Row}
 use Rattle.gil.specs.Plain.{plainRun}
 use Rattle.gil.specs.Pool.{Ref, placeIn, Pool, valueOf, poolValues, meets}
 use Rattle.gil.specs.Accounts.{rowWith, putIn, Stands, here, further, Accounts}
-use Rattle.gil.specs.Layout.{wordBytes, rowWords, rowBytes, headWords, outcomeWords, room, refTag, tableBytes, poolBytes, answerBytes, inputWords}
+use Rattle.gil.specs.Numbers.{rowRoom, mostTerms}
+use Rattle.gil.specs.Layout.{wordBytes, rowWords, rowBytes, refTag, tableBytes, poolBytes, answerBytes, inputWords}
 use Rattle.machine_code.specs.WellFormed as WellFormed
 use Rattle.machine_code.specs.WellFormed.{Each}
-use Rattle.lent_words.specs.Words.{wordAt}
-use Rattle.table_locate.specs.Located.{atMost}
-use Rattle.table_locate.specs.Sound.{RowFits, Sound}
-use Rattle.table_locate.specs.Inputs.{Bytes}
-use Rattle.table_locate.specs.Terms.{ValuesAs, values-as}
-use Rattle.table_locate.specs.Laws.{RowAt, row-at, row-count, term-count, row-holds, length-row, length-outcome, getD-behind, all-of}
+use Rattle.lent_words.specs.Mirror.{wordAt, atMost}
+use Rattle.lent_words.specs.Laws.Words.{all-of}
+use Rattle.table_locate.specs.Laws.Sound.{RowFits, Sound}
+use Rattle.table_locate.specs.Laws.Inputs.{Bytes}
+use Rattle.table_locate.specs.Laws.Terms.{ValuesAs, values-as}
+use Rattle.table_locate.specs.Laws.Rows.{RowAt, row-at, row-count, term-count, row-holds, length-row, head-word}
 use Rattle.demands.specs.FromBytes.{rowsIn, wordsAt, rowIn, stepsIn, valuesIn, meetsRow, putRow, putInBytes}
 use Rattle.demands.specs.PutIn.{row-put, answer-steps}
 
@@ -61,10 +62,6 @@ standing k [] h = absurd (omega arith)
 standing zero (a ∷ l) h = (a, here)
 standing (suc k) (a ∷ l) h = let (b, s) = standing k l (omega arith) in (b, further s)
 
-steps-word : (r : Row Ref) → getD (rowWords refTag placeIn r) 3 0 ≡ r .steps
-unfolding rowWords headWords room
-steps-word r = simp append-assoc (getD-behind (outcomeWords refTag placeIn (r .outcome)) _ 3 0 (rw length-outcome refl))
-
 -- a row of a sound table stands where it is read
 pub stands-at :
     {w : Pool} {rows : List (Row Ref)} → Sound w rows → (extra : List ℕ) → {k : ℕ} {r : Row Ref} → Stands k r rows
@@ -101,8 +98,8 @@ module _ {w : Pool} {rows : List (Row Ref)} (s : Sound w rows) (extra rest input
   values-read : ValuesAs w cs (valuesIn T P inputs)
   unfolding valuesIn
   values-read =
-      let n : atMost 2048 (wordAt (tableBytes w rows ++ extra) 4) ≡ length w =
-      ap (atMost 2048) (term-count s extra) ∙ all-of 2048 (length w) (s .fewTerms) in
+      let n : atMost mostTerms (wordAt (tableBytes w rows ++ extra) 4) ≡ length w =
+      ap (atMost mostTerms) (term-count s extra) ∙ all-of mostTerms (length w) (s .fewTerms) in
       rw n (values-as inputs long bytes rest (s .fewTerms) (s .terms))
 
   module _ {k : ℕ} {r : Row Ref} (stands : Stands k r rows) where
@@ -115,12 +112,12 @@ module _ {w : Pool} {rows : List (Row Ref)} (s : Sound w rows) (extra rest input
 
     pub steps-read : stepsIn T k ≡ r .steps
     unfolding stepsIn RowAt
-    steps-read = stands-at s extra stands (64 + 1024 * k + 12) 3 (omega arith) (omega arith) ∙ steps-word r
+    steps-read = stands-at s extra stands (64 + 1024 * k + 12) 3 (omega arith) (omega arith) ∙ head-word fits 0 (omega arith)
 
     row-read : rowIn T k ≡ rowWords refTag placeIn r
     unfolding rowIn RowAt
     row-read =
-        let n : length (rowWords refTag placeIn r) ≡ 256 = length-row (s .fewTerms) fits in
+        let n : length (rowWords refTag placeIn r) ≡ rowRoom = length-row fits in
         ap (wordsAt T (64 + 1024 * k)) (sym n)
         ∙ words-read T (64 + 1024 * k) (rowWords refTag placeIn r)
         (λ j h. stands-at s extra stands (64 + 1024 * k + 4 * j) j (omega arith) refl)

@@ -7,13 +7,15 @@ use mathlib.Core.List.{List}
 use lib.ListN.{length}
 use lib.Dec.{ltb}
 use borrow.Author.Tests.{ltb-true, ltb-false}
+use Rattle.gil.specs.Numbers.{mostBytes, forLength, forForm, forLimits, forNames, forJump, forEnd}
 use Rattle.gil.specs.Tree.{Proc, Name}
 use Rattle.gil.specs.Reading.{Read, faulty, read, procedures}
 use Rattle.gil.specs.Names.{Program, Checked, refused, accepted, overLimits, wrongNames, wrongJump, wrongEnd, refusedIf, tested, checkText}
 use Rattle.gil.specs.Theory.Tests.{chosen, no-false}
-use Rattle.demands.specs.Reasons.{TextReason, tooLong, notOfTheForm, overALimit, wrongName, jumpsPast, endsOpen, First}
+use Rattle.demands.specs.Reasons.{TextReason, tooLong, notOfTheForm, overALimit, wrongName, jumpsPast, endsOpen}
+use Rattle.demands.specs.Orders.{Lowest}
 
-pub text-range : {text : List ℕ} {n : ℕ} → TextReason text n → (3 ≤ n) × (n ≤ 8)
+pub text-range : {text : List ℕ} {n : ℕ} → TextReason text n → (forLength ≤ n) × (n ≤ forEnd)
 text-range (tooLong h) = omega arith
 text-range (notOfTheForm e) = omega arith
 text-range (overALimit e t) = omega arith
@@ -22,7 +24,7 @@ text-range (jumpsPast e t) = omega arith
 text-range (endsOpen e t) = omega arith
 
 pub data TextOutcome (text : List ℕ) : Checked → Type 0 where
-  isWrong : {n : ℕ} → First (TextReason text) n → TextOutcome text (refused n)
+  isWrong : {n : ℕ} → Lowest (TextReason text) n → TextOutcome text (refused n)
   isRight : {p : Program} → ((n : ℕ) → TextReason text n → ⊥) → TextOutcome text (accepted p)
 
 -- a test that what was read passes
@@ -33,19 +35,19 @@ passed {ps = ps} {qs = qs} test e f d t = let same : ps ≡ qs = cc in no-false 
 
 -- a reason that the program read from a text does not give
 module _ {text : List ℕ} {ps : List (Proc Name)} {next : ℕ} (is : procedures text ≡ read ps next) where
-  not-4 : TextReason text 4 → ⊥
+  not-4 : TextReason text forForm → ⊥
   not-4 (notOfTheForm e) = let z : _≡_ {A = ℕ} 0 1 = cc in omega arith
 
-  not-5 : overLimits ps ≡ false → TextReason text 5 → ⊥
+  not-5 : overLimits ps ≡ false → TextReason text forLimits → ⊥
   not-5 f (overALimit e t) = passed overLimits is f e t
 
-  not-6 : wrongNames ps ≡ false → TextReason text 6 → ⊥
+  not-6 : wrongNames ps ≡ false → TextReason text forNames → ⊥
   not-6 f (wrongName e t) = passed wrongNames is f e t
 
-  not-7 : wrongJump ps ≡ false → TextReason text 7 → ⊥
+  not-7 : wrongJump ps ≡ false → TextReason text forJump → ⊥
   not-7 f (jumpsPast e t) = passed wrongJump is f e t
 
-  not-8 : wrongEnd ps ≡ false → TextReason text 8 → ⊥
+  not-8 : wrongEnd ps ≡ false → TextReason text forEnd → ⊥
   not-8 f (endsOpen e t) = passed wrongEnd is f e t
 
 module _ (text : List ℕ) where
@@ -53,7 +55,7 @@ module _ (text : List ℕ) where
   Below : ℕ → Type 0
   Below k = (m : ℕ) → m < k → TextReason text m → ⊥
 
-  below-3 : Below 3
+  below-3 : Below forLength
   unfolding Below
   below-3 m h r = let (f, g) = text-range r in omega arith
 
@@ -73,22 +75,22 @@ module _ (text : List ℕ) where
   refused-if true n t below f g h = isWrong (f refl, below)
   refused-if false n t below f g h = h (next-below n below (g refl))
 
-  tested-outcome : Below 4 → (r : Read (List (Proc Name))) → procedures text ≡ r → TextOutcome text (tested r)
+  tested-outcome : Below forForm → (r : Read (List (Proc Name))) → procedures text ≡ r → TextOutcome text (tested r)
   unfolding tested Below
   tested-outcome below faulty e = isWrong (notOfTheForm e, below)
   tested-outcome below (read ps next) e =
-      refused-if (overLimits ps) 5 _ (next-below 4 below (not-4 e)) (overALimit e) (not-5 e) λ below-6.
-      refused-if (wrongNames ps) 6 _ below-6 (wrongName e) (not-6 e) λ below-7.
-      refused-if (wrongJump ps) 7 _ below-7 (jumpsPast e) (not-7 e) λ below-8.
-      refused-if (wrongEnd ps) 8 _ below-8 (endsOpen e) (not-8 e) λ below-9.
+      refused-if (overLimits ps) forLimits _ (next-below forForm below (not-4 e)) (overALimit e) (not-5 e) λ below-6.
+      refused-if (wrongNames ps) forNames _ below-6 (wrongName e) (not-6 e) λ below-7.
+      refused-if (wrongJump ps) forJump _ below-7 (jumpsPast e) (not-7 e) λ below-8.
+      refused-if (wrongEnd ps) forEnd _ below-8 (endsOpen e) (not-8 e) λ below-9.
       isRight λ n r. let (f, g) = text-range r in below-9 n (omega arith) r
 
-  not-3 : length text ≤ 16384 → TextReason text 3 → ⊥
+  not-3 : length text ≤ mostBytes → TextReason text forLength → ⊥
   not-3 short (tooLong h) = omega arith
 
   pub text-outcome : TextOutcome text (checkText text)
   unfolding checkText Below
   text-outcome =
-      chosen (TextOutcome text) (ltb 16384 (length text))
-      (λ e. isWrong (tooLong (ltb-true 16384 (length text) e), below-3))
-      (λ e. tested-outcome (next-below 3 below-3 (not-3 (ltb-false 16384 (length text) e))) (procedures text) refl)
+      chosen (TextOutcome text) (ltb mostBytes (length text))
+      (λ e. isWrong (tooLong (ltb-true mostBytes (length text) e), below-3))
+      (λ e. tested-outcome (next-below forLength below-3 (not-3 (ltb-false mostBytes (length text) e))) (procedures text) refl)

@@ -322,5 +322,5 @@ cases = starred ++ ours
 
 -- every case of the table is answered as it says
 pub all-answered : map (λ c. answerTo (c .text) (c .ask)) cases ≡ map (λ c. c .answer) cases
-unfolding answerTo answerOf askOf tableAnswer placeAnswer main full is n unbound line when cell ends t vt one textA from receives threeCells starred ours cases Text.bytes Text.letter Text.digit Text.inRun Text.white Text.span Text.part Text.quoted Text.coloned Text.marked Text.tokenFrom Text.skipWhite Text.lexeme Text.reservedWords Text.uSymPrefix Text.iSymPrefix Text.same Text.find Text.allDigits Text.plainZero Text.decimalFrom Text.numeral Text.numbered Text.symbol Text.identified Text.identifier Text.wordOf Reading.after Reading._>>=_ Reading._>>_ Reading.done Reading.nothing Reading.token Reading.ahead Reading.isMark Reading.isEnded Reading.isBecomes Reading.so Reading.theMark Reading.theBecomes Reading.nameOf Reading.asWord Reading.theName Reading.numberOf Reading.theNumber Reading.propertyOf Reading.theProperty Reading.opMark Reading.opKey Reading.opWord Reading.opOf Reading.theOp Reading.negation Reading.bracketed Reading.exprKey Reading.exprWord Reading.exprFrom Reading.exprDeep Reading.expr Reading.assignment Reading.callOf Reading.callOrVar Reading.named Reading.lookupOf Reading.mutateOf Reading.disposeOf Reading.valueKey Reading.valueWord Reading.valueFrom Reading.settingOf Reading.jumpOf Reading.endingOf Reading.commandKey Reading.commandWord Reading.command Reading.orMore Reading.oneOrMore Reading.commandsOf Reading.commands Reading.procedure Reading.proceduresOf Reading.procedures Names.any Names.gather Names.has Names.placeOf Names.withName Names.withNames Names.distinct Names.exprVars Names.cmdVars Names.cmdProperties Names.cmdCalls Names.procVars Names.properties Names.procNames Names.overLimits Names.repeated Names.wrongNames Names.jumpsPast Names.wrongJump Names.isEnd Names.endsOpen Names.wrongEnd Names.renameExpr Names.renameCmd Names.numberProc Names.numberProgram Names.refusedIf Names.tested Names.checkText Values.sortOf Values.sameSort Values.numberIn Values.truthIn Values.sameTruth Values.sameConstant Values.rightIf Values.alikeIf Values.both Values.fit Values.work Values.workNot Values.opGivesNumber Values.givesNumber Machine.goto Machine.onward Machine.entered Machine.backTo Machine.withInput Machine.withLocation Machine.frames Machine.procedureAt Machine.commandAt Machine.steer Machine.assigned Machine.withCells Machine.frame Machine.topStore Machine.belowTop Machine.opened Machine.closed Machine.returnsTo Machine.isAt Machine.isBefore Machine.cellAt Machine.putCell Machine.withoutCells Machine.start Machine.andThen Machine._>>=_ Machine._>>_ Machine.give Machine.stop Machine.must Machine.there Machine.sortIn Machine.making Machine.combine Machine.fitted Machine.operate Machine.negated Machine.negate Machine.eval Machine.theLocation Machine.jump Machine.exec Machine.settled Machine.move Rows.rowOf Rows.cutFor Plain.noSort Plain.known Plain.plain Plain.ran Plain.ranTo Plain.runFor Plain.plainRun Explore.stepped Explore.branched Explore.turned Explore.finish Explore.waitingOn Explore.onTurn Explore.walkTurn Explore.overfull Explore.turnIn Explore.afterMove Explore.advance Explore.begin Explore.afterCommands Explore.walkMove Explore.walk Explore.explore Pool.refSort Pool.placeIn Pool.refTo Pool.added Pool.pooled Pool.table Pool.valueOf Pool.nodeValue Pool.valuesFrom Pool.poolValues Pool.meets Pool.placeAmong Pool.placed Printed.digits Printed.decimal Printed.truthText Printed.constantText Printed.opText Printed.atMost200 Printed.notText Printed.opTexts Printed.valueText Printed.nodeText Printed.textsFrom Printed.poolTexts Printed.orLarge Printed.valueField Printed.endFields Printed.outcomeFields Printed.unlessTrue Printed.conditionText Printed.conditionsAfter Printed.conditionsField Printed.lineEnd Printed.rowLine Printed.rowLines Printed.heading Printed.refusalLine Printed.exploredText Printed.checkedText Printed.printed
+unfolding answerTo answerOf askOf tableAnswer placeAnswer main full is n unbound line when cell ends t vt one textA from receives threeCells starred ours cases Text.bytes Text.letter Text.digit Text.inRun Text.white Text.span Text.part Text.quoted Text.coloned Text.marked Text.tokenFrom Text.skipWhite Text.lexeme Text.reservedWords Text.uSymPrefix Text.iSymPrefix Text.same Text.find Text.allDigits Text.plainZero Text.decimalFrom Text.numeral Text.numbered Text.symbol Text.identified Text.identifier Text.wordOf Reading.after Reading._>>=_ Reading._>>_ Reading.done Reading.nothing Reading.token Reading.ahead Reading.isMark Reading.isEnded Reading.isBecomes Reading.so Reading.theMark Reading.theBecomes Reading.nameOf Reading.asWord Reading.theName Reading.numberOf Reading.theNumber Reading.propertyOf Reading.theProperty Reading.opMark Reading.opKey Reading.opWord Reading.opOf Reading.theOp Reading.negation Reading.bracketed Reading.exprKey Reading.exprWord Reading.exprFrom Reading.exprDeep Reading.expr Reading.assignment Reading.callOf Reading.callOrVar Reading.named Reading.lookupOf Reading.mutateOf Reading.disposeOf Reading.valueKey Reading.valueWord Reading.valueFrom Reading.settingOf Reading.jumpOf Reading.endingOf Reading.commandKey Reading.commandWord Reading.command Reading.orMore Reading.oneOrMore Reading.commandsOf Reading.commands Reading.procedure Reading.proceduresOf Reading.procedures Names.any Names.gather Names.has Names.placeOf Names.withName Names.withNames Names.distinct Names.exprVars Names.cmdVars Names.cmdProperties Names.cmdCalls Names.procVars Names.properties Names.procNames Names.overLimits Names.repeated Names.wrongNames Names.jumpsPast Names.wrongJump Names.isEnd Names.endsOpen Names.wrongEnd Names.renameExpr Names.renameCmd Names.numberProc Names.numberProgram Names.refusedIf Names.tested Names.checkText Values.sortOf Values.sameSort Values.numberIn Values.truthIn Values.sameTruth Values.sameConstant Values.rightIf Values.alikeIf Values.both Values.fit Values.work Values.workNot Values.opGivesNumber Values.givesNumber Machine.goto Machine.onward Machine.entered Machine.backTo Machine.frames Machine.procedureAt Machine.commandAt Machine.unused Machine.withInput Machine.withLocation Machine.counting Machine.withCells Machine.steer Machine.assigned Machine.withMemory Machine.answered Machine.frame Machine.topStore Machine.belowTop Machine.opened Machine.closed Machine.returnsTo Machine.isAt Machine.isBefore Machine.cellAt Machine.putCell Machine.withoutCells Machine.start Machine.andThen Machine._>>=_ Machine._>>_ Machine.give Machine.stop Machine.must Machine.there Machine.sortIn Machine.making Machine.combine Machine.fitted Machine.operate Machine.negated Machine.negate Machine.eval Machine.theLocation Machine.jump Machine.lookedUp Machine.written Machine.dropped Machine.freshLocation Machine.freshInput Machine.exec Machine.settled Machine.move Rows.rowOf Rows.cutFor Plain.noSort Plain.known Plain.plain Plain.ran Plain.ranTo Plain.runFor Plain.plainRun Explore.stepped Explore.branched Explore.turned Explore.finish Explore.waitingOn Explore.onTurn Explore.walkTurn Explore.overfull Explore.turnIn Explore.afterMove Explore.advance Explore.begin Explore.afterCommands Explore.walkMove Explore.walk Explore.explore Pool.refSort Pool.placeIn Pool.refTo Pool.added Pool.pooled Pool.table Pool.valueOf Pool.nodeValue Pool.valuesFrom Pool.poolValues Pool.meets Pool.placeAmong Pool.placed Printed.digits Printed.decimal Printed.truthText Printed.constantText Printed.opText Printed.atMost200 Printed.notText Printed.opTexts Printed.valueText Printed.nodeText Printed.textsFrom Printed.poolTexts Printed.orLarge Printed.valueField Printed.endFields Printed.outcomeFields Printed.unlessTrue Printed.conditionText Printed.conditionsAfter Printed.conditionsField Printed.lineEnd Printed.rowLine Printed.rowLines Printed.heading Printed.refusalLine Printed.exploredText Printed.checkedText Printed.printed
 all-answered = refl

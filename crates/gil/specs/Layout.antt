@@ -5,7 +5,7 @@ use mathlib.Core.Bool.{Bool, true, false}
 use mathlib.Core.List.{List, [], _∷_, _++_}
 use mathlib.Core.Option.{Option, none, some}
 use lib.ListN.{length, replicate}
-use Rattle.gil.specs.Numbers.{tableLength, poolLength, asReturned, asFailed, asVanished, asError, asCut, forSteps, forBranches, numberTag, booleanTag, locationTag, numberTermTag, booleanTermTag, inputKind, notKind, plusKind, minusKind, equalKind, lessKind, andKind, orKind}
+use Rattle.gil.specs.Numbers.{tableLength, poolLength, asReturned, asFailed, asVanished, asError, asCut, forSteps, forBranches, numberTag, booleanTag, locationTag, numberTermTag, booleanTermTag, headRoom, conditionsRoom, variablesRoom, cellsRoom, livenessRoom, sitesRoom, restRoom, inputKind, notKind, plusKind, minusKind, equalKind, lessKind, andKind, orKind}
 use Rattle.gil.specs.Tree.{Op, plus, minus, equal, less, and, or}
 use Rattle.gil.specs.Names.{gather}
 use Rattle.gil.specs.Values.{Constant, number, boolean, location, Value, const, term, Node, input, neg, bin}
@@ -20,6 +20,18 @@ wordBytes n = n % 256 ∷ n / 256 % 256 ∷ n / 65536 % 256 ∷ n / 16777216 % 2
 unfoldable pub room : ℕ → List ℕ → List ℕ
 room n ws = ws ++ replicate (n - length ws) 0
 
+-- words in parts: each part has its room, and the words that it holds stand at the room's beginning
+pub record Part : Type 0 where
+  pub size : ℕ
+  pub words : List ℕ
+
+abbrev pub inRoom : ℕ → List ℕ → Part
+inRoom n ws = record { size = n; words = ws }
+
+unfoldable pub partsWords : List Part → List ℕ
+partsWords [] = []
+partsWords (p ∷ ps) = room (p .size) (p .words) ++ partsWords ps
+
 unfoldable pub bit : Bool → ℕ
 bit true = 1
 bit false = 0
@@ -33,6 +45,11 @@ constantWords (location l) = locationTag ∷ l ∷ []
 unfoldable pub reasonCode : Reason → ℕ
 reasonCode steps = forSteps
 reasonCode branches = forBranches
+
+-- what stands in a row's head after its outcome, one number after another: Numbers has the place of each
+abbrev pub headNumbers : {T : Type 0} → Row T → List ℕ
+headNumbers r =
+    r .steps ∷ r .procedure ∷ r .command ∷ r .inputs ∷ length (r .conditions) ∷ length (r .variables) ∷ length (r .cells) ∷ []
 
 -- over any kind of term, given its tag and its place
 module _ {T : Type 0} (tag place : T → ℕ) where
@@ -62,21 +79,25 @@ module _ {T : Type 0} (tag place : T → ℕ) where
   outcomeWords (ended e) = endWords e
   outcomeWords (cut why) = asCut ∷ 0 ∷ reasonCode why ∷ []
 
-  -- words 0 to 15 of a row
+  -- a row's head
   unfoldable pub headWords : Row T → List ℕ
-  headWords r =
-      room 16
-      (outcomeWords (r .outcome)
-      ++ (r .steps ∷ r .procedure ∷ r .command ∷ r .inputs ∷ length (r .conditions) ∷ length (r .variables) ∷ length (r .cells) ∷ []))
+  headWords r = outcomeWords (r .outcome) ++ headNumbers r
 
-  -- a row's 256 words; the last 48 are kept for what later requests add
+  -- a row's parts, in their order; the last three hold nothing, and are kept for what later requests add
+  unfoldable pub rowParts : Row T → List Part
+  rowParts r =
+      inRoom headRoom (headWords r)
+      ∷ inRoom conditionsRoom (gather conditionWords (r .conditions))
+      ∷ inRoom variablesRoom (gather variableWords (r .variables))
+      ∷ inRoom cellsRoom (gather cellWords (r .cells))
+      ∷ inRoom livenessRoom []
+      ∷ inRoom sitesRoom []
+      ∷ inRoom restRoom []
+      ∷ []
+
+  -- a row's 256 words
   unfoldable pub rowWords : Row T → List ℕ
-  rowWords r =
-      headWords r
-      ++ room 32 (gather conditionWords (r .conditions))
-      ++ room 32 (gather variableWords (r .variables))
-      ++ room 128 (gather cellWords (r .cells))
-      ++ replicate 48 0
+  rowWords r = partsWords (rowParts r)
 
   unfoldable pub rowBytes : Row T → List ℕ
   rowBytes r = gather wordBytes (rowWords r)

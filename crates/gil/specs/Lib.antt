@@ -11,6 +11,7 @@ pub mod Explore
 pub mod Pool
 pub mod Layout
 pub mod Calls
+pub mod Promises
 pub mod Printed
 pub mod Accounts
 pub mod Theory

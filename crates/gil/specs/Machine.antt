@@ -28,11 +28,14 @@ pub record Caller : Type 0 where
   pub next : ℕ
   pub target : ℕ
 
--- where a path stands and what it has used up: no values
+-- where a path stands: no values
 pub record Control : Type 0 where
   pub procedure : ℕ
   pub command : ℕ
   pub callers : List Caller
+
+-- what a path has used up, inputs and locations: no values
+pub record Counters : Type 0 where
   pub inputs : ℕ
   pub locations : ℕ
 
@@ -45,12 +48,22 @@ pub record Cell (T : Type 0) : Type 0 where
   pub property : ℕ
   pub value : Value T
 
+-- what the actions act on
+pub record Memory (T : Type 0) : Type 0 where
+  pub counters : Counters
+  pub cells : List (Cell T)
+
+-- what an action on the memory gives: the value for its variable, and the memory after it
+pub record Answer (T : Type 0) : Type 0 where
+  pub value : Value T
+  pub memory : Memory T
+
 -- `saved` are the callers' variables, one store for each caller
 pub record State (T : Type 0) : Type 0 where
   pub control : Control
   pub variables : Store T
   pub saved : List (Store T)
-  pub cells : List (Cell T)
+  pub memory : Memory T
 
 -- "Outcomes: returned, failed, vanished, error" are how a path ends; a cut is no end
 pub data End (T : Type 0) : Type 0 where
@@ -72,7 +85,7 @@ pub data Result (W A : Type 0) : Type 0 where
 
 -- where control goes
 unfoldable pub goto : ℕ → Control → Control
-goto n c = record { procedure = c .procedure; command = n; callers = c .callers; inputs = c .inputs; locations = c .locations }
+goto n c = record { procedure = c .procedure; command = n; callers = c .callers }
 
 unfoldable pub onward : Control → Control
 onward c = goto (suc (c .command)) c
@@ -83,20 +96,10 @@ entered f x c =
       procedure = f;
       command = 0;
       callers = record { procedure = c .procedure; next = suc (c .command); target = x } ∷ c .callers;
-      inputs = c .inputs;
-      locations = c .locations;
     }
 
-unfoldable pub backTo : Caller → List Caller → Control → Control
-backTo k ks c = record { procedure = k .procedure; command = k .next; callers = ks; inputs = c .inputs; locations = c .locations }
-
-unfoldable pub withInput : Control → Control
-withInput c =
-    record { procedure = c .procedure; command = c .command; callers = c .callers; inputs = suc (c .inputs); locations = c .locations }
-
-unfoldable pub withLocation : Control → Control
-withLocation c =
-    record { procedure = c .procedure; command = c .command; callers = c .callers; inputs = c .inputs; locations = suc (c .locations) }
+unfoldable pub backTo : Caller → List Caller → Control
+backTo k ks = record { procedure = k .procedure; command = k .next; callers = ks }
 
 -- "main is the first" frame
 unfoldable pub frames : Control → ℕ
@@ -109,17 +112,38 @@ procedureAt p f = getD (p .procedures) f (record { name = []; variables = 0; bod
 unfoldable pub commandAt : Program → Control → Cmd ℕ
 commandAt p c = getD (procedureAt p (c .procedure) .body) (c .command) vanish
 
+-- nothing used up; one input or one location more
+unfoldable pub unused : Counters
+unused = record { inputs = 0; locations = 0 }
+
+unfoldable pub withInput : Counters → Counters
+withInput k = record { inputs = suc (k .inputs); locations = k .locations }
+
+unfoldable pub withLocation : Counters → Counters
+withLocation k = record { inputs = k .inputs; locations = suc (k .locations) }
+
 module _ {T : Type 0} where
+  -- a memory with other counters, and with other cells
+  unfoldable pub counting : (Counters → Counters) → Memory T → Memory T
+  counting f m = record { counters = f (m .counters); cells = m .cells }
+
+  unfoldable pub withCells : List (Cell T) → Memory T → Memory T
+  withCells cs m = record { counters = m .counters; cells = cs }
+
   unfoldable pub steer : (Control → Control) → State T → State T
-  steer f s = record { control = f (s .control); variables = s .variables; saved = s .saved; cells = s .cells }
+  steer f s = record { control = f (s .control); variables = s .variables; saved = s .saved; memory = s .memory }
 
   -- a variable assigned, and on to the next command
   unfoldable pub assigned : ℕ → Value T → State T → State T
   assigned x v s =
-      record { control = onward (s .control); variables = set (s .variables) x (some v); saved = s .saved; cells = s .cells }
+      record { control = onward (s .control); variables = set (s .variables) x (some v); saved = s .saved; memory = s .memory }
 
-  unfoldable pub withCells : List (Cell T) → State T → State T
-  withCells cs s = record { control = s .control; variables = s .variables; saved = s .saved; cells = cs }
+  unfoldable pub withMemory : Memory T → State T → State T
+  withMemory m s = record { control = s .control; variables = s .variables; saved = s .saved; memory = m }
+
+  -- an action's answer: its value assigned, its memory kept
+  unfoldable pub answered : ℕ → Answer T → State T → State T
+  answered x a s = assigned x (a .value) (withMemory (a .memory) s)
 
   -- "a frame in which only the parameter is bound"
   unfoldable pub frame : ℕ → Value T → Store T
@@ -140,16 +164,16 @@ module _ {T : Type 0} where
         control = entered f x (s .control);
         variables = frame (procedureAt p f .variables) v;
         saved = s .variables ∷ s .saved;
-        cells = s .cells;
+        memory = s .memory;
       }
 
   unfoldable pub closed : Caller → List Caller → Value T → State T → State T
   closed k ks v s =
       record {
-        control = backTo k ks (s .control);
+        control = backTo k ks;
         variables = set (topStore (s .saved)) (k .target) (some v);
         saved = belowTop (s .saved);
-        cells = s .cells;
+        memory = s .memory;
       }
 
   -- "return in the first frame ends the run, in any other it assigns to the caller's variable and goes on after the call"
@@ -189,10 +213,10 @@ module _ {T : Type 0} where
   unfoldable pub start : Program → State T
   start p =
       record {
-        control = record { procedure = p .main; command = 0; callers = []; inputs = 0; locations = 0 };
+        control = record { procedure = p .main; command = 0; callers = [] };
         variables = frame (procedureAt p (p .main) .variables) (const (number 0));
         saved = [];
-        cells = [];
+        memory = record { counters = unused; cells = [] };
       }
 
 module _ (M : Model) where
@@ -290,6 +314,36 @@ module _ (M : Model) where
   jump n s (const (location l)) = stop wrongSort
   jump n s (term t) = must (sameSort booleans (M .sort t)) wrongSort >> give (fork t (steer (goto n) s) (steer onward s))
 
+  -- The actions on the memory: each gives its answer or errs, whatever control goes with it. The site j changes nothing.
+  -- "`lookup` gives the cell's value"
+  unfoldable pub lookedUp : (l q : ℕ) → Memory (M .Term) → Act M (Answer (M .Term))
+  lookedUp l q m = do
+    v ← there (cellAt l q (m .cells)) noSuchCell
+    give (record { value = v; memory = m })
+
+  -- "`mutate` writes the cell, adding it if absent"; "Both of the last give `true`"
+  unfoldable pub written : (l q : ℕ) → Val M → Memory (M .Term) → Act M (Answer (M .Term))
+  written l q v m = do
+    must (leb (length (putCell l q v (m .cells))) mostCells) thirtyThirdCell
+    give (record { value = const (boolean true); memory = withCells (putCell l q v (m .cells)) m })
+
+  -- "`dispose` removes all cells of the location"
+  unfoldable pub dropped : (l : ℕ) → Memory (M .Term) → Act M (Answer (M .Term))
+  dropped l m = give (record { value = const (boolean true); memory = withCells (withoutCells l (m .cells)) m })
+
+  -- "`uSym` gives the next location of this path"
+  unfoldable pub freshLocation : (j : ℕ) → Memory (M .Term) → Act M (Answer (M .Term))
+  freshLocation j m = do
+    must (ltb (m .counters .locations) mostLocations) seventeenthLocation
+    give (record { value = const (location (m .counters .locations)); memory = counting withLocation m })
+
+  -- "`iSym` the next input, always a number"
+  unfoldable pub freshInput : (j : ℕ) → Memory (M .Term) → Act M (Answer (M .Term))
+  freshInput j m = do
+    must (ltb (m .counters .inputs) mostInputs) seventeenthInput
+    v ← making (Values.input (m .counters .inputs))
+    give (record { value = v; memory = counting withInput m })
+
   unfoldable pub exec : Program → State (M .Term) → Cmd ℕ → Act M (Next (M .Term))
   exec p s (assign x e) = do
     v ← eval (s .variables) e
@@ -304,25 +358,25 @@ module _ (M : Model) where
   exec p s (lookup x e q) = do
     v ← eval (s .variables) e
     l ← theLocation v
-    u ← there (cellAt l q (s .cells)) noSuchCell
-    give (on (assigned x u s))
+    a ← lookedUp l q (s .memory)
+    give (on (answered x a s))
   exec p s (mutate x e q d) = do
     v ← eval (s .variables) e
     u ← eval (s .variables) d
     l ← theLocation v
-    must (leb (length (putCell l q u (s .cells))) mostCells) thirtyThirdCell
-    give (on (assigned x (const (boolean true)) (withCells (putCell l q u (s .cells)) s)))
+    a ← written l q u (s .memory)
+    give (on (answered x a s))
   exec p s (dispose x e) = do
     v ← eval (s .variables) e
     l ← theLocation v
-    give (on (assigned x (const (boolean true)) (withCells (withoutCells l (s .cells)) s)))
+    a ← dropped l (s .memory)
+    give (on (answered x a s))
   exec p s (uSym x j) = do
-    must (ltb (s .control .locations) mostLocations) seventeenthLocation
-    give (on (assigned x (const (location (s .control .locations))) (steer withLocation s)))
+    a ← freshLocation j (s .memory)
+    give (on (answered x a s))
   exec p s (iSym x j) = do
-    must (ltb (s .control .inputs) mostInputs) seventeenthInput
-    v ← making (Values.input (s .control .inputs))
-    give (on (assigned x v (steer withInput s)))
+    a ← freshInput j (s .memory)
+    give (on (answered x a s))
   exec p s (return e) = do
     v ← eval (s .variables) e
     give (returnsTo (s .control .callers) v s)

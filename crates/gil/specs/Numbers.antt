@@ -231,6 +231,10 @@ sitesRoom = 16
 abbrev pub restRoom : ℕ
 restRoom = 16
 
+-- and all of them
+abbrev pub rowRoom : ℕ
+rowRoom = 256
+
 -- at which byte of a row each begins
 abbrev pub conditionsAt : ℕ
 conditionsAt = 64
@@ -280,8 +284,9 @@ pub pool-fits : mostTerms * termLength ≡ poolLength
 pool-fits = refl
 
 pub row-fits :
-    wordLength * (headRoom + conditionsRoom + variablesRoom + cellsRoom + livenessRoom + sitesRoom + restRoom) ≡ rowLength
-row-fits = refl
+    (headRoom + conditionsRoom + variablesRoom + cellsRoom + livenessRoom + sitesRoom + restRoom ≡ rowRoom)
+    × (wordLength * rowRoom ≡ rowLength)
+row-fits = (refl, refl)
 
 pub parts-fit :
     (wordLength * headRoom ≡ conditionsAt)

@@ -42,10 +42,10 @@ rowOf o n q =
       steps = n;
       procedure = q .state .control .procedure;
       command = q .state .control .command;
-      inputs = q .state .control .inputs;
+      inputs = q .state .memory .counters .inputs;
       conditions = q .conditions;
       variables = q .state .variables;
-      cells = q .state .cells;
+      cells = q .state .memory .cells;
     }
 
 -- a path that waits, read as cut

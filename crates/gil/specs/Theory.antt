@@ -2,6 +2,7 @@
 -- (Together), their rows with inputs put in (PutIn); the two instances, trees beside plain values (TreePlain) and the pool beside trees
 -- (ReadBack, PoolTree); exactly one is met (Exactly), the exploration ends (Ends), and both over the pool (Pooled, AsTerms). Assumes nothing.
 pub mod Tests
+pub mod Gathered
 pub mod Trees
 pub mod Relation
 pub mod Together
@@ -14,3 +15,4 @@ pub mod Exactly
 pub mod Ends
 pub mod Pooled
 pub mod AsTerms
+pub mod Given

@@ -1,4 +1,10 @@
 // What a text, a call, an exploration and a path may have.
+pub const MOST_CHARACTERS: usize = 16;
+
+pub const LARGEST_NUMBER: u32 = 4294967295;
+
+pub const LARGEST_SITE: u32 = 255;
+
 pub const MOST_BYTES: usize = 16384;
 
 pub const MOST_PROCEDURES: usize = 16;

@@ -1,2 +1,4 @@
-pub mod Words
-pub mod Reads
+-- Words in bytes. Assumes nothing.
+pub mod Mirror
+pub mod Steps
+pub mod Laws

@@ -2,16 +2,20 @@
 // sorts, and says what is asked of the cells; `conclude` gives the action's variable what the cells gave, or errs by 3 or 7. Between the two stands
 // the search in the cells (crates/machine_cells), so that nothing here holds them. An action that errs leaves variables and cells as they were.
 ghost use mathlib.Core.Path.{_≡_};
-ghost use Rattle.machine_commands.specs.Stepped.{acted};
-ghost use Rattle.machine_actions.specs.Asked.{erringIn, askingIn, askIn, asks, concludeIn};
+ghost use Rattle.machine_commands.specs.Mirror.{acted};
+ghost use Rattle.machine_actions.specs.Mirror.{erringIn, askingIn, askIn, asks, lackIn, concludeIn};
+use gil::numbers;
+use machine_cells as cells;
 use machine_cells::Ask;
 use machine_code::CODE_WORDS;
+use machine_code::LOOKUP_KIND;
+use machine_code::MUTATE_KIND;
+use machine_code::STORE_WORDS;
 use machine_commands as commands;
 use machine_commands::Command;
 use machine_commands::Control;
 use machine_commands::Next;
 use machine_evaluate as evaluate;
-use machine_evaluate::STORE_WORDS;
 use machine_values as values;
 use machine_values::Location;
 use machine_values::VALUES;
@@ -25,21 +29,18 @@ pub struct Asked {
 fn erring(error: u32) -> Asked
     ensures { λ r. ⌜ r ≡ erringIn error ⌝ }
 {
-    let ask = Ask {
-        kind: 0,
-        location: Location(0),
-        property: 0,
-        value: 0,
-    };
-    Asked { ask, error }
+    Asked {
+        ask: cells::nothing(),
+        error,
+    }
 }
 
 // The action `m` on the value v, which must be a location
 fn asking(m: Command, v: u64, value: u64) -> Asked
     ensures { λ r. ⌜ r ≡ askingIn m v value ⌝ }
 {
-    if values::tag(v) != 3 {
-        return erring(2);
+    if values::tag(v) != numbers::LOCATION_TAG {
+        return erring(numbers::WRONG_SORT);
     }
     let ask = Ask {
         kind: m.kind,
@@ -65,7 +66,7 @@ pub fn ask(
     if v < VALUES {
         return erring(values::word(v));
     }
-    if m.kind != 5 {
+    if m.kind != MUTATE_KIND {
         return asking(m, v, 0);
     }
     let u = evaluate::evaluate(code, m.second, store, c.frame, pool, count);
@@ -75,15 +76,22 @@ pub fn ask(
     asking(m, v, u)
 }
 
+// What an action errs by that the cells gave nothing
+fn lack(kind: u32) -> u32
+    ensures { λ r. ⌜ r ≡ lackIn kind ⌝ }
+{
+    match kind {
+        LOOKUP_KIND => numbers::NO_SUCH_CELL,
+        _ => numbers::THIRTY_THIRD_CELL,
+    }
+}
+
 // What an action comes to once the cells have given something, or nothing: "3 no such cell", "7 a thirty-third cell"
 pub fn conclude(c: Control, kind: u32, x: u32, given: u64, store: &mut [u64; STORE_WORDS]) -> Next
     ensures { λ r. ⌜ acted r (now (store .exit)) ≡ concludeIn c kind x given (now (store .entry)) ⌝ }
 {
     if given == 0 {
-        if kind == 4 {
-            return Next::Error(3);
-        }
-        return Next::Error(7);
+        return Next::Error(lack(kind));
     }
     commands::assign(c, x, given, store)
 }

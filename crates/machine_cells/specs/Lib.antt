@@ -1,7 +1,3 @@
-pub mod Deeds
-pub mod Halving
-pub mod Held
+pub mod Mirror
+pub mod Steps
 pub mod Laws
-pub mod Order
-pub mod Putting
-pub mod Served

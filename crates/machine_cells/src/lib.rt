@@ -1,17 +1,22 @@
 // The memory: "Cells are kept in order of location, then of property by its first place in the text". Up to 32 cells stand in an array, the
-// first `held` of them in use and in order (specs/Order.antt). Search, insert and removal work on the lent slice, so that no cell is copied but
+// first `held` of them in use and in order (specs/Laws/Order.antt). Search, insert and removal work on the lent slice, so that no cell is copied but
 // those that move; `decide` says for each action, from what was found, what is to be put in and taken out. What is found, put in and taken out
-// is Machine's `cellAt`, `putCell` and `withoutCells` over the cells in use (specs/Held.antt, specs/Served.antt).
+// is Machine's `cellAt`, `putCell` and `withoutCells` over the cells in use (specs/Mirror.antt, specs/Laws/Served.antt).
 ghost use mathlib.Core.Path.{_≡_};
 ghost use Prim.Native.Nat.{_<_, _≤_};
 ghost use lib.ListN.{length, drop};
 ghost use Rattle.gil.specs.Machine.{isAt, withoutCells};
-ghost use Rattle.machine_cells.specs.Held.{cellOf, heldIn, reaches, FoundAt, hits, carriedIn, doing, mutatedIn, lookedIn, deedIn};
-ghost use Rattle.machine_cells.specs.Order.{Ordered};
+ghost use Rattle.machine_cells.specs.Mirror.{cellOf, heldIn, reaches, FoundAt, hits, carriedIn, doing, nothingIn, mutatedIn, lookedIn, deedIn};
+ghost use Rattle.machine_cells.specs.Laws.Order.{Ordered};
+use gil::limits::MOST_CELLS;
+use machine_code::DISPOSE_KIND;
+use machine_code::LOOKUP_KIND;
+use machine_code::MUTATE_KIND;
 use machine_values as values;
 use machine_values::Location;
 
-pub const CELLS: usize = 32;
+// as many as a path may have
+pub const CELLS: usize = MOST_CELLS;
 
 pub struct Cell {
     pub location: Location,
@@ -137,6 +142,18 @@ pub struct Ask {
     pub value: u64,
 }
 
+// Nothing is asked
+pub fn nothing() -> Ask
+    ensures { λ r. ⌜ r ≡ nothingIn ⌝ }
+{
+    Ask {
+        kind: 0,
+        location: Location(0),
+        property: 0,
+        value: 0,
+    }
+}
+
 // What is done to the cells for it: `cell` is put in at a place, those up to `last` moving up, and then the location's cells are taken out of the
 // first `among`; how many are in use before that removal; and what the action's variable is given, 0 where it errs.
 pub struct Deed {
@@ -204,9 +221,9 @@ pub fn decide(a: Ask, f: Found, held: usize) -> Deed
 {
     let kind = a.kind;
     match kind {
-        4 => looked(a, f, held),
-        5 => mutated(a, f, held),
-        6 => unchanged(a, held, held, values::truth(true)),
+        LOOKUP_KIND => looked(a, f, held),
+        MUTATE_KIND => mutated(a, f, held),
+        DISPOSE_KIND => unchanged(a, held, held, values::truth(true)),
         _ => unchanged(a, 0, held, 0),
     }
 }

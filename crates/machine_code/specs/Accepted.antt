@@ -7,13 +7,15 @@ use mathlib.Core.List.{List, map}
 use lib.ListN.{length, length-map}
 use lib.Dec.{ltb}
 use borrow.Author.Tests.{ltb-false, not-false}
+use Rattle.gil.specs.Numbers.{mostProcedures, mostCommands, mostVariables, mostProperties, mostBytes, forEnd}
 use Rattle.gil.specs.Text.{bytes}
 use Rattle.gil.specs.Tree.{Cmd, Proc, Name}
 use Rattle.gil.specs.Reading.{Read, read, procedures}
 use Rattle.gil.specs.Names.{any, gather, has, placeOf, cmdProperties, cmdCalls, procVars, properties, procNames, overLimits, repeated, wrongNames, wrongJump, wrongEnd, Program, numberProc, numberProgram, Checked, refused, accepted, refusedIf, tested, checkText}
-use Rattle.machine_code.specs.Code.{allCommands}
+use Rattle.gil.specs.Theory.Tests.{chosen}
+use Rattle.machine_code.specs.Code.{allCommands, nodesRoom}
 use Rattle.machine_code.specs.WellFormed.{Each, WellFormed}
-use Rattle.machine_code.specs.Accepted.Lists.{or-false, choose, each-to, each-both, each-map, each-gather, none-passes, total}
+use Rattle.machine_code.specs.Accepted.Lists.{or-false, each-to, each-both, each-map, each-gather, none-passes, total}
 use Rattle.machine_code.specs.Accepted.Places.{Known, placeOf-below, distinct-has}
 use Rattle.machine_code.specs.Accepted.Sizes.{procSize, ProcSmall}
 use Rattle.machine_code.specs.Accepted.Readers.{Given, isFaulty, isRead}
@@ -36,24 +38,24 @@ each-use uses ps h = each-to (λ p. each-gather uses (p .body)) (each-gather _ p
 
 -- what is known where refusal 5 is not given
 pub record Limited (ps : List (Proc Name)) : Type 0 where
-  pub fewProcedures : length ps ≤ 16
-  pub fewCommands : length (gather (λ p. p .body) ps) ≤ 512
-  pub fewVariables : Each (λ p. length (procVars p) ≤ 16) ps
-  pub fewProperties : length (properties ps) ≤ 32
+  pub fewProcedures : length ps ≤ mostProcedures
+  pub fewCommands : length (gather (λ p. p .body) ps) ≤ mostCommands
+  pub fewVariables : Each (λ p. length (procVars p) ≤ mostVariables) ps
+  pub fewProperties : length (properties ps) ≤ mostProperties
 
 pub limits-kept : (ps : List (Proc Name)) → overLimits ps ≡ false → Limited ps
 unfolding overLimits
 limits-kept ps e =
-    let a : Bool = ltb 16 (length ps) in
-    let b : Bool = ltb 512 (length (gather (λ p. p .body) ps)) in
-    let c : Bool = any (λ p. ltb 16 (length (procVars p))) ps in
+    let a : Bool = ltb mostProcedures (length ps) in
+    let b : Bool = ltb mostCommands (length (gather (λ p. p .body) ps)) in
+    let c : Bool = any (λ p. ltb mostVariables (length (procVars p))) ps in
     let (e₁, properties) = or-false (a || b || c) _ e in
     let (e₂, variables) = or-false (a || b) c e₁ in
     let (procedures, commands) = or-false a b e₂ in
     record {
       fewProcedures = ltb-false _ _ procedures;
       fewCommands = ltb-false _ _ commands;
-      fewVariables = each-to (λ p. ltb-false 16 (length (procVars p))) (none-passes _ ps variables);
+      fewVariables = each-to (λ p. ltb-false mostVariables (length (procVars p))) (none-passes _ ps variables);
       fewProperties = ltb-false _ _ properties;
     }
 
@@ -85,7 +87,7 @@ properties-known ps = each-use cmdProperties ps (distinct-has (gather (λ p. gat
 
 -- a small program within the limits of refusal 5 and with the names of refusal 6
 pub numberProgram-well-formed :
-    (ps : List (Proc Name)) → Each ProcSmall ps → total procSize ps ≤ 8192 → Limited ps → Named ps → WellFormed (numberProgram ps)
+    (ps : List (Proc Name)) → Each ProcSmall ps → total procSize ps ≤ nodesRoom → Limited ps → Named ps → WellFormed (numberProgram ps)
 unfolding numberProgram allCommands procNames
 numberProgram-well-formed ps small size limited named =
     let qs = properties ps in
@@ -120,14 +122,14 @@ pub record Passed (s : List ℕ) (p : Program) : Type 0 where
   pub next : ℕ
   pub is : procedures s ≡ read procs next
   pub small : Each ProcSmall procs
-  pub size : total procSize procs ≤ 8192
+  pub size : total procSize procs ≤ nodesRoom
   pub limited : Limited procs
   pub right : wrongNames procs ≡ false
   pub numbered : p ≡ numberProgram procs
 
 tested-passed :
     (s : List ℕ)
-    → length s ≤ 16384
+    → length s ≤ mostBytes
     → {r : Read (List (Proc Name))}
     → procedures s ≡ r
     → Given s (ItemsRead ProcSmall procSize 0) r
@@ -140,7 +142,7 @@ tested-passed s few is (isRead {a = ps} h q) p e =
     let (limits, e₁) = not-refused (overLimits ps) 5 _ e in
     let (names, e₂) = not-refused (wrongNames ps) 6 _ e₁ in
     let (_, e₃) = not-refused (wrongJump ps) 7 _ e₂ in
-    let (_, e₄) = not-refused (wrongEnd ps) 8 _ e₃ in
+    let (_, e₄) = not-refused (wrongEnd ps) forEnd _ e₃ in
     record {
       procs = ps;
       next = _;
@@ -155,7 +157,7 @@ tested-passed s few is (isRead {a = ps} h q) p e =
 pub accepted-passed : (s : List ℕ) (p : Program) → checkText s ≡ accepted p → Passed s p
 unfolding checkText
 accepted-passed s p e =
-    choose (λ (c : Checked). c ≡ accepted p → Passed s p) (ltb 16384 (length s))
+    chosen (λ (c : Checked). c ≡ accepted p → Passed s p) (ltb mostBytes (length s))
     (λ _. refused-not-accepted)
     (λ short. tested-passed s (ltb-false _ _ short) refl (procedures-given s) p)
     e

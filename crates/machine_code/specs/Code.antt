@@ -22,17 +22,30 @@ proceduresAt = 2
 abbrev pub proceduresRoom : ℕ
 proceduresRoom = 48
 
+abbrev pub procedureSize : ℕ
+procedureSize = 3
+
 abbrev pub commandsAt : ℕ
 commandsAt = 50
 
 abbrev pub commandsRoom : ℕ
 commandsRoom = 2560
 
+abbrev pub commandSize : ℕ
+commandSize = 5
+
 abbrev pub nodesAt : ℕ
 nodesAt = 2610
 
 abbrev pub nodesRoom : ℕ
 nodesRoom = 8192
+
+-- where procedure n and command n of all stand
+abbrev pub procedureAt : ℕ → ℕ
+procedureAt n = proceduresAt + procedureSize * n
+
+abbrev pub commandAt : ℕ → ℕ
+commandAt n = commandsAt + commandSize * n
 
 -- the store of a path: for each of 8 frames its 16 variables, and the procedure, command and variable that it returns to
 abbrev pub frameWords : ℕ
@@ -113,6 +126,16 @@ orNode = 10
 abbrev pub kindRange : ℕ
 kindRange = 268435456
 
+-- the first node that is a variable, a number in the next word, `not`
+abbrev pub variableFrom : ℕ
+variableFrom = 536870912
+
+abbrev pub nextWordFrom : ℕ
+nextWordFrom = 805306368
+
+abbrev pub notFrom : ℕ
+notFrom = 1073741824
+
 abbrev pub node : ℕ → ℕ → ℕ
 node kind w = kindRange * kind + w
 
@@ -187,6 +210,9 @@ programWords p =
 pub code-fits :
     (proceduresAt + proceduresRoom ≡ commandsAt) × (commandsAt + commandsRoom ≡ nodesAt) × (nodesAt + nodesRoom ≡ codeWords)
 code-fits = (refl, refl, refl)
+
+pub nodes-fit : (node variableNode 0 ≡ variableFrom) × (node nextWordNode 0 ≡ nextWordFrom) × (node notNode 0 ≡ notFrom)
+nodes-fit = (refl, refl, refl)
 
 pub store-fits : mostFrames * frameWords ≡ storeWords
 store-fits = refl

@@ -4,9 +4,10 @@ use Prim.Native.Nat.{ℕ, suc, _<_, _≤_}
 use mathlib.Core.Bool.{Bool}
 use mathlib.Core.List.{List, [], _∷_}
 use lib.ListN.{length}
+use Rattle.gil.specs.Numbers.{mostDepth, mostProperties, mostVariables, mostProcedures, mostCommands}
 use Rattle.gil.specs.Tree.{Op, Expr, num, bool, var, neg, bin, Cmd, assign, ifgoto, call, lookup, mutate, dispose, uSym, iSym, return, fail, vanish}
 use Rattle.gil.specs.Names.{gather, Procedure, Program}
-use Rattle.machine_code.specs.Code.{cmdNodes, allCommands}
+use Rattle.machine_code.specs.Code.{cmdNodes, allCommands, nodesRoom}
 
 -- something holds of every element
 pub data Each {A : Type 0} (P : A → Type 0) : List A → Type 0 where
@@ -23,34 +24,34 @@ pub data ExprFits (variables : ℕ) : ℕ → Expr ℕ → Type 0 where
 
 -- a command of a procedure with so many variables, in a program with so many procedures
 pub data CmdFits (variables procedures : ℕ) : Cmd ℕ → Type 0 where
-  anAssign : {x : ℕ} {e : Expr ℕ} → x < variables → ExprFits variables 8 e → CmdFits variables procedures (assign x e)
-  aJump : {n : ℕ} {e : Expr ℕ} → ExprFits variables 8 e → n < 4294967296 → CmdFits variables procedures (ifgoto e n)
+  anAssign : {x : ℕ} {e : Expr ℕ} → x < variables → ExprFits variables mostDepth e → CmdFits variables procedures (assign x e)
+  aJump : {n : ℕ} {e : Expr ℕ} → ExprFits variables mostDepth e → n < 4294967296 → CmdFits variables procedures (ifgoto e n)
   aCall :
-      {x f : ℕ} {e : Expr ℕ} → x < variables → f < procedures → ExprFits variables 8 e → CmdFits variables procedures (call x f e)
-  aLookup : {x q : ℕ} {e : Expr ℕ} → x < variables → ExprFits variables 8 e → q < 32 → CmdFits variables procedures (lookup x e q)
+      {x f : ℕ} {e : Expr ℕ} → x < variables → f < procedures → ExprFits variables mostDepth e → CmdFits variables procedures (call x f e)
+  aLookup : {x q : ℕ} {e : Expr ℕ} → x < variables → ExprFits variables mostDepth e → q < mostProperties → CmdFits variables procedures (lookup x e q)
   aMutate :
       {x q : ℕ} {e d : Expr ℕ}
       → x < variables
-      → ExprFits variables 8 e
-      → q < 32
-      → ExprFits variables 8 d
+      → ExprFits variables mostDepth e
+      → q < mostProperties
+      → ExprFits variables mostDepth d
       → CmdFits variables procedures (mutate x e q d)
-  aDispose : {x : ℕ} {e : Expr ℕ} → x < variables → ExprFits variables 8 e → CmdFits variables procedures (dispose x e)
+  aDispose : {x : ℕ} {e : Expr ℕ} → x < variables → ExprFits variables mostDepth e → CmdFits variables procedures (dispose x e)
   aUSym : {x j : ℕ} → x < variables → j < 4294967296 → CmdFits variables procedures (uSym x j)
   anISym : {x j : ℕ} → x < variables → j < 4294967296 → CmdFits variables procedures (iSym x j)
-  aReturn : {e : Expr ℕ} → ExprFits variables 8 e → CmdFits variables procedures (return e)
-  aFail : {e : Expr ℕ} → ExprFits variables 8 e → CmdFits variables procedures (fail e)
+  aReturn : {e : Expr ℕ} → ExprFits variables mostDepth e → CmdFits variables procedures (return e)
+  aFail : {e : Expr ℕ} → ExprFits variables mostDepth e → CmdFits variables procedures (fail e)
   aVanish : CmdFits variables procedures vanish
 
 pub record ProcedureFits (procedures : ℕ) (q : Procedure) : Type 0 where
   pub someVariable : 1 ≤ q .variables
-  pub fewVariables : q .variables ≤ 16
+  pub fewVariables : q .variables ≤ mostVariables
   pub someCommand : 1 ≤ length (q .body)
   pub commands : Each (CmdFits (q .variables) procedures) (q .body)
 
 pub record WellFormed (p : Program) : Type 0 where
-  pub fewProcedures : length (p .procedures) ≤ 16
-  pub fewCommands : length (allCommands p) ≤ 512
-  pub fewNodes : length (gather cmdNodes (allCommands p)) ≤ 8192
+  pub fewProcedures : length (p .procedures) ≤ mostProcedures
+  pub fewCommands : length (allCommands p) ≤ mostCommands
+  pub fewNodes : length (gather cmdNodes (allCommands p)) ≤ nodesRoom
   pub mainThere : p .main < length (p .procedures)
   pub procedures : Each (ProcedureFits (length (p .procedures))) (p .procedures)

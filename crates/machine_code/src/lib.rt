@@ -1,5 +1,9 @@
-// How an accepted program stands in an array of words (specs/Code.antt: the reader writes it and the engine reads it), and how many words the
-// variables of a path take (crates/machine_evaluate).
+// How an accepted program stands in an array of words (specs/Code.antt: the reader writes it and the engine reads it), and the sizes of a
+// path's store. A word is read as it stands, 0 past the end.
+ghost use mathlib.Core.Path.{_≡_};
+ghost use Prim.Native.Nat.{_<_};
+ghost use Rattle.machine_code.specs.Mirror.{codeWord};
+
 pub const CODE_WORDS: usize = 10802;
 
 // From where on the procedures, the commands and the nodes of expressions stand, and how many words a procedure and a command have
@@ -75,3 +79,17 @@ pub const FRAME_WORDS: usize = 19;
 pub const STORE_WORDS: usize = 152;
 
 pub const RETURNS_AT: usize = 16;
+
+// A word as an index. Written as a function, it asks nothing of the place where it is called.
+pub fn wide(w: u32) -> usize
+    ensures { λ r. ⌜ (r ≡ w) × (r < 4294967296) ⌝ }
+{
+    w as usize
+}
+
+// The program's word at a place
+pub fn code_word(code: &[u32; CODE_WORDS], at: usize) -> u32
+    ensures { λ r. ⌜ r ≡ codeWord (now (code .entry)) at ⌝ }
+{
+    if at < CODE_WORDS { code[at] } else { 0 }
+}

@@ -1,2 +1,2 @@
-pub mod Stepped
-pub mod Stores
+pub mod Mirror
+pub mod Steps

@@ -5,18 +5,39 @@
 // words one command here is one move of document 01's machine.
 ghost use mathlib.Core.Path.{_≡_};
 ghost use Prim.Native.Nat.{_<_};
-ghost use Rattle.machine_terms.specs.Made.{did};
-ghost use Rattle.machine_terms.specs.Laws.{freshIn};
-ghost use Rattle.machine_commands.specs.Stepped.{movedIn, withLocationIn, withInputIn, locateIn, after, receiveIn, actIn, stepIn, startIn, startStore, gotoIn, onwardIn, putIn, wordIn, zerosIn, codeWord, vanishCommand, commandIn, fetchIn, acted, assignIn, jumpIn, enterIn, leaveIn};
+ghost use Rattle.gil.specs.Numbers.{mostVariables, mostInputs, mostLocations};
+ghost use Rattle.machine_terms.specs.Mirror.{did};
+ghost use Rattle.machine_terms.specs.Laws.Engine.{freshIn};
+ghost use Rattle.machine_commands.specs.Mirror.{movedIn, withLocationIn, withInputIn, locateIn, after, receiveIn, actIn, stepIn, startIn, startStore, gotoIn, onwardIn, putIn, wordIn, zerosIn, vanishCommand, commandIn, fetchIn, acted, assignIn, jumpIn, enterIn, leaveIn};
+use gil::limits::MOST_FRAMES;
+use gil::limits::MOST_INPUTS;
+use gil::limits::MOST_LOCATIONS;
+use gil::limits::MOST_VARIABLES;
+use gil::numbers;
+use machine_code::ASSIGN_KIND;
+use machine_code::CALL_KIND;
 use machine_code::CODE_WORDS;
+use machine_code::COMMAND_WORDS;
 use machine_code::COMMANDS_AT;
+use machine_code::FRAME_WORDS;
+use machine_code::ISYM_KIND;
+use machine_code::JUMP_KIND;
+use machine_code::PROCEDURE_WORDS;
+use machine_code::RETURN_KIND;
+use machine_code::RETURNS_AT;
+use machine_code::STORE_WORDS;
+use machine_code::USYM_KIND;
+use machine_code::VANISH_KIND;
+use machine_code::code_word;
 use machine_evaluate as evaluate;
-use machine_evaluate::STORE_WORDS;
 use machine_terms as terms;
 use machine_values as values;
 use machine_values::Input;
 use machine_values::Location;
 use machine_values::VALUES;
+
+// main's frame is 0
+const LAST_FRAME: u32 = MOST_FRAMES - 1;
 
 // Where a path stands and what it has used up: the frame (main is the first, 0), the procedure and the number of its next command
 pub struct Control {
@@ -46,11 +67,6 @@ pub enum Next {
     Error(u32),
     Fork(u32, Control, Control),
 }
-
-const FRAME_WORDS: usize = 19;
-
-// where a frame keeps the procedure, command and variable that its return goes to
-const RETURNS: usize = 16;
 
 fn moved(c: Control, frame: u32, procedure: u32, command: u32) -> Control
     ensures { λ r. ⌜ r ≡ movedIn c frame procedure command ⌝ }
@@ -96,12 +112,6 @@ fn word(store: &[u64; STORE_WORDS], at: usize) -> u32
     }
 }
 
-fn code_word(code: &[u32; CODE_WORDS], at: usize) -> u32
-    ensures { λ r. ⌜ r ≡ codeWord (now (code .entry)) at ⌝ }
-{
-    if at < CODE_WORDS { code[at] } else { 0 }
-}
-
 // "`main` starts with its parameter at 0": where a path begins, and its store
 pub fn start(code: &[u32; CODE_WORDS]) -> Control
     ensures { λ r. ⌜ r ≡ startIn (now (code .entry)) ⌝ }
@@ -127,7 +137,7 @@ fn vanish() -> Command
     ensures { λ r. ⌜ r ≡ vanishCommand ⌝ }
 {
     Command {
-        kind: 11,
+        kind: VANISH_KIND,
         target: 0,
         first: 0,
         other: 0,
@@ -155,13 +165,13 @@ fn command_at(code: &[u32; CODE_WORDS], at: usize) -> Command
 pub fn fetch(code: &[u32; CODE_WORDS], c: Control) -> Command
     ensures { λ r. ⌜ r ≡ fetchIn (now (code .entry)) (c .procedure) (c .command) ⌝ }
 {
-    let procedure = 3 * (c.procedure as usize);
+    let procedure = PROCEDURE_WORDS * (c.procedure as usize);
     let count = code_word(code, procedure + 4);
     if c.command < count {
         let first = code_word(code, procedure + 2);
         return command_at(
             code,
-            COMMANDS_AT + 5 * (first as usize + c.command as usize),
+            COMMANDS_AT + COMMAND_WORDS * (first as usize + c.command as usize),
         );
     }
     vanish()
@@ -179,24 +189,24 @@ fn jump(c: Control, n: u32, v: u64) -> Next
     ensures { λ r. ⌜ r ≡ jumpIn c n v ⌝ }
 {
     let tag = values::tag(v);
-    if tag == 2 {
+    if tag == numbers::BOOLEAN_TAG {
         if values::word(v) == 0 {
             return Next::On(onward(c));
         }
         return Next::On(goto(c, n));
     }
-    if tag == 5 {
+    if tag == numbers::BOOLEAN_TERM_TAG {
         return Next::Fork(values::word(v), goto(c, n), onward(c));
     }
-    Next::Error(2)
+    Next::Error(numbers::WRONG_SORT)
 }
 
 fn clear(store: &mut [u64; STORE_WORDS], base: usize)
     requires { ⌜ base < 100000000000 ⌝ }
-    ensures { λ _. ⌜ now (store .exit) ≡ zerosIn 16 base (now (store .entry)) ⌝ }
+    ensures { λ _. ⌜ now (store .exit) ≡ zerosIn mostVariables base (now (store .entry)) ⌝ }
 {
     let mut i: usize = 0;
-    while i < 16 {
+    while i < MOST_VARIABLES {
         put(store, base + i, 0);
         i += 1;
     }
@@ -206,15 +216,15 @@ fn clear(store: &mut [u64; STORE_WORDS], base: usize)
 fn enter(c: Control, x: u32, f: u32, v: u64, store: &mut [u64; STORE_WORDS]) -> Next
     ensures { λ r. ⌜ acted r (now (store .exit)) ≡ enterIn c x f v (now (store .entry)) ⌝ }
 {
-    if 7 <= c.frame {
-        return Next::Error(4);
+    if LAST_FRAME <= c.frame {
+        return Next::Error(numbers::NINTH_FRAME);
     }
     let base = FRAME_WORDS * (c.frame as usize + 1);
     clear(store, base);
     put(store, base, v);
-    put(store, base + RETURNS, c.procedure as u64);
-    put(store, base + RETURNS + 1, c.command as u64 + 1);
-    put(store, base + RETURNS + 2, x as u64);
+    put(store, base + RETURNS_AT, c.procedure as u64);
+    put(store, base + RETURNS_AT + 1, c.command as u64 + 1);
+    put(store, base + RETURNS_AT + 2, x as u64);
     Next::On(moved(c, c.frame + 1, f, 0))
 }
 
@@ -226,15 +236,15 @@ fn leave(c: Control, v: u64, store: &mut [u64; STORE_WORDS]) -> Next
         return Next::Returned(values::tag(v), values::word(v));
     }
     let base = FRAME_WORDS * (c.frame as usize);
-    let procedure = word(store, base + RETURNS);
-    let command = word(store, base + RETURNS + 1);
-    let x = word(store, base + RETURNS + 2);
+    let procedure = word(store, base + RETURNS_AT);
+    let command = word(store, base + RETURNS_AT + 1);
+    let x = word(store, base + RETURNS_AT + 2);
     put(store, base - FRAME_WORDS + x as usize, v);
     Next::On(moved(c, c.frame - 1, procedure, command))
 }
 
 fn with_location(c: Control) -> Control
-    requires { ⌜ c .locations .0 < 16 ⌝ }
+    requires { ⌜ c .locations .0 < mostLocations ⌝ }
     ensures { λ r. ⌜ r ≡ withLocationIn c ⌝ }
 {
     let inputs = c.inputs;
@@ -248,7 +258,7 @@ fn with_location(c: Control) -> Control
 }
 
 fn with_input(c: Control) -> Control
-    requires { ⌜ c .inputs .0 < 16 ⌝ }
+    requires { ⌜ c .inputs .0 < mostInputs ⌝ }
     ensures { λ r. ⌜ r ≡ withInputIn c ⌝ }
 {
     let locations = c.locations;
@@ -265,15 +275,21 @@ fn with_input(c: Control) -> Control
 fn locate(c: Control, x: u32, store: &mut [u64; STORE_WORDS]) -> Next
     ensures { λ r. ⌜ acted r (now (store .exit)) ≡ locateIn c x (now (store .entry)) ⌝ }
 {
-    if 16 <= c.locations.0 {
-        return Next::Error(6);
+    if MOST_LOCATIONS <= c.locations.0 {
+        return Next::Error(numbers::SEVENTEENTH_LOCATION);
     }
     let l = c.locations;
     assign(with_location(c), x, values::located(l), store)
 }
 
-fn input(known: bool, inputs: &[u32; 16], i: Input, pool: &mut [u8], count: &mut u32) -> u64
-    requires { ⌜ i .0 < 16 ⌝ }
+fn input(
+    known: bool,
+    inputs: &[u32; MOST_INPUTS as usize],
+    i: Input,
+    pool: &mut [u8],
+    count: &mut u32,
+) -> u64
+    requires { ⌜ i .0 < mostInputs ⌝ }
     ensures { λ r. ⌜ did r (now (pool .exit)) (now (count .exit)) ≡ freshIn known (now (inputs .entry)) (i .0) (now (pool .entry)) (now (count .entry)) ⌝ }
 {
     if known {
@@ -288,15 +304,15 @@ fn receive(
     c: Control,
     x: u32,
     known: bool,
-    inputs: &[u32; 16],
+    inputs: &[u32; MOST_INPUTS as usize],
     store: &mut [u64; STORE_WORDS],
     pool: &mut [u8],
     count: &mut u32,
 ) -> Next
     ensures { λ r. ⌜ after r (now (store .exit)) (now (pool .exit)) (now (count .exit)) ≡ receiveIn c x known (now (inputs .entry)) (now (store .entry)) (now (pool .entry)) (now (count .entry)) ⌝ }
 {
-    if 16 <= c.inputs.0 {
-        return Next::Error(5);
+    if MOST_INPUTS <= c.inputs.0 {
+        return Next::Error(numbers::SEVENTEENTH_INPUT);
     }
     let i = c.inputs;
     let v = input(known, inputs, i, pool, count);
@@ -309,10 +325,10 @@ fn act(c: Control, m: Command, v: u64, store: &mut [u64; STORE_WORDS]) -> Next
 {
     let kind = m.kind;
     match kind {
-        1 => assign(c, m.target, v, store),
-        2 => jump(c, m.target, v),
-        3 => enter(c, m.target, m.other, v, store),
-        9 => leave(c, v, store),
+        ASSIGN_KIND => assign(c, m.target, v, store),
+        JUMP_KIND => jump(c, m.target, v),
+        CALL_KIND => enter(c, m.target, m.other, v, store),
+        RETURN_KIND => leave(c, v, store),
         _ => Next::Failed(values::tag(v), values::word(v)),
     }
 }
@@ -323,7 +339,7 @@ pub fn step(
     c: Control,
     m: Command,
     known: bool,
-    inputs: &[u32; 16],
+    inputs: &[u32; MOST_INPUTS as usize],
     store: &mut [u64; STORE_WORDS],
     pool: &mut [u8],
     count: &mut u32,
@@ -332,9 +348,9 @@ pub fn step(
 {
     let kind = m.kind;
     match kind {
-        7 => locate(c, m.target, store),
-        8 => receive(c, m.target, known, inputs, store, pool, count),
-        11 => Next::Vanished,
+        USYM_KIND => locate(c, m.target, store),
+        ISYM_KIND => receive(c, m.target, known, inputs, store, pool, count),
+        VANISH_KIND => Next::Vanished,
         _ => {
             let v = evaluate::value(code, m.first, store, c.frame, pool, count);
             if v < VALUES {

@@ -11,17 +11,19 @@ use lib.ListN.{length, getD, drop, length-drop, length-append}
 use lib.Seq.{getD-drop, drop-drop, drop-append-seam}
 use lib.Dec.{ltb, eqb}
 use borrow.Author.Tests.{ne-eqb, lt-ltb, le-ltb, ltb-true}
+use Rattle.gil.specs.Numbers.{mostDepth, mostVariables, mostFrames, notBound}
 use Rattle.gil.specs.Tree.{Op, plus, minus, equal, less, and, or, Expr}
 use Rattle.gil.specs.Values.{Value}
 use Rattle.gil.specs.Layout.{bit}
 use Rattle.gil.specs.Machine.{Model, Store, Result, andThen, _>>=_, give, stop, there, eval}
-use Rattle.machine_code.specs.Code.{opWord, node, numberWords, exprWords}
+use Rattle.machine_code.specs.Code.{opWord, node, numberWords, exprWords, codeWords, frameWords, storeWords, variableNode, nextWordNode, kindRange, variableFrom, nextWordFrom, notFrom}
 use Rattle.machine_code.specs.WellFormed.{ExprFits, aNumber, aTruth, aVariable, aNot, anOperator}
-use Rattle.machine_values.specs.Packed.{if?, truthWord}
+use Rattle.machine_code.specs.Mirror.{if?}
+use Rattle.machine_values.specs.Mirror.{truthWord}
 use Rattle.machine_values.specs.Laws as Values
-use Rattle.machine_terms.specs.Made.{Did, did}
-use Rattle.machine_terms.specs.Laws.{Engine, ValueAs, constAs, As, EvalAs, gives, errs, value-low, operate-as, negate-as}
-use Rattle.machine_evaluate.specs.Evaluated.{andThenIn, variableIn, numberIn, leafOf, leafIn, operandBy, secondBy, operatorBy, operatorIn, operandIn, evaluateIn}
+use Rattle.machine_terms.specs.Mirror.{Did, did}
+use Rattle.machine_terms.specs.Laws.Engine.{Engine, ValueAs, constAs, As, EvalAs, gives, errs, value-low, operate-as, negate-as}
+use Rattle.machine_evaluate.specs.Mirror.{andThenIn, variableIn, numberIn, leafOf, leafIn, operandBy, secondBy, operatorBy, operatorIn, operandIn, evaluateIn}
 
 -- an expression's words stand at a place
 pub record Placed (code : List ℕ) (at : ℕ) (e : Expr ℕ) : Type 0 where
@@ -36,7 +38,7 @@ module _ (code : List ℕ) (at : ℕ) {k : ℕ} {rest : List ℕ} (e : drop at c
   behind : drop (at + 1) code ≡ rest
   behind = sym (drop-drop 1 at code) ∙ ap (λ (l : List ℕ). drop 1 l) e
 
-  inside : length code ≡ 10802 → at < 10802
+  inside : length code ≡ codeWords → at < codeWords
   inside h = omega (arith, length-drop at code, ap (λ (l : List ℕ). length l) e)
 
 -- a variable's word: 0 where it is not bound
@@ -46,7 +48,7 @@ pub data SlotAs {T : Type 0} (TermAs : T → ℕ → Type 0) : Option (Value T) 
 
 -- a frame's variables in the store
 abbrev pub FrameAs : {T : Type 0} → (T → ℕ → Type 0) → Store T → List ℕ → ℕ → Type 0
-FrameAs TermAs ρ store frame = (x : ℕ) → x < 16 → SlotAs TermAs (getD ρ x none) (getD store (19 * frame + x) 0)
+FrameAs TermAs ρ store frame = (x : ℕ) → x < mostVariables → SlotAs TermAs (getD ρ x none) (getD store (frameWords * frame + x) 0)
 
 -- an operator's node is no leaf, and no `not`
 op-high : (o : Op) → 5 ≤ opWord o
@@ -68,17 +70,17 @@ module _ (code store : List ℕ) (frame at : ℕ) where
   op-node o w =
       let h = op-high o in
       simp
-      (le-ltb (node (opWord o) w) 536870912 (omega arith), le-ltb (node (opWord o) w) 805306368 (omega arith), le-ltb (node (opWord o) w) 1073741824 (omega arith))
+      (le-ltb (node (opWord o) w) variableFrom (omega arith), le-ltb (node (opWord o) w) nextWordFrom (omega arith), le-ltb (node (opWord o) w) notFrom (omega arith))
 
-  near-node : (n : ℕ) → n < 268435456 → leafOf code store frame at n ≡ 4294967296 + n
+  near-node : (n : ℕ) → n < kindRange → leafOf code store frame at n ≡ 4294967296 + n
   unfolding leafOf
-  near-node n h = let e : 4294967296 * (n / 268435456 + 1) + n % 268435456 ≡ 4294967296 + n = omega arith in simp (lt-ltb n 536870912 (omega arith)) e
+  near-node n h = let e : 4294967296 * (n / kindRange + 1) + n % kindRange ≡ 4294967296 + n = omega arith in simp (lt-ltb n variableFrom (omega arith)) e
 
-  variable-node : (x : ℕ) → x < 16 → leafOf code store frame at (node 2 x) ≡ variableIn store frame x
+  variable-node : (x : ℕ) → x < mostVariables → leafOf code store frame at (node variableNode x) ≡ variableIn store frame x
   unfolding leafOf
   variable-node x h =
-      let e : node 2 x - 536870912 ≡ x = omega arith in
-      simp (le-ltb (node 2 x) 536870912 (omega arith), lt-ltb (node 2 x) 805306368 (omega arith), e)
+      let e : node variableNode x - variableFrom ≡ x = omega arith in
+      simp (le-ltb (node variableNode x) variableFrom (omega arith), lt-ltb (node variableNode x) nextWordFrom (omega arith), e)
 
   truth-node : (b : Bool) → leafOf code store frame at (node 1 (bit b)) ≡ truthWord b
   unfolding leafOf bit truthWord
@@ -89,15 +91,15 @@ module _ (code store : List ℕ) (frame at : ℕ) where
   unfolding leafOf
   not-node = refl
 
-  far-node : leafOf code store frame at (node 3 0) ≡ numberIn code (at + 1)
+  far-node : leafOf code store frame at (node nextWordNode 0) ≡ numberIn code (at + 1)
   unfolding leafOf
   far-node = refl
 
 -- a node's two parts
-kind-part : (k w : ℕ) → w < 268435456 → node k w / 268435456 ≡ k
+kind-part : (k w : ℕ) → w < kindRange → node k w / kindRange ≡ k
 kind-part k w h = omega arith
 
-other-part : (k w : ℕ) → w < 268435456 → node k w % 268435456 ≡ w
+other-part : (k w : ℕ) → w < kindRange → node k w % kindRange ≡ w
 other-part k w h = omega arith
 
 module _ {M : Model} (E : Engine M) where
@@ -111,22 +113,22 @@ module _ {M : Model} (E : Engine M) where
   then-as {d} (gives {w} {v} h p) k = simp (le-ltb (d .out) 4294967296 (value-low E p)) (k w v (d .out) (d .pool) (d .count) h p)
   then-as {d} (errs {n} h e few) k = let small : d .out < 4294967296 = rw e few in simp (lt-ltb (d .out) 4294967296 small) (errs h e few)
 
-  module _ (code store : List ℕ) (frame : ℕ) (whole : length code ≡ 10802) where
+  module _ (code store : List ℕ) (frame : ℕ) (whole : length code ≡ codeWords) where
     -- a leaf, and an operator
     leaf-is : (at : ℕ) {k x : ℕ} {rest : List ℕ} → drop at code ≡ k ∷ rest → leafOf code store frame at k ≡ x → leafIn code store frame at ≡ x
     unfolding leafIn
-    leaf-is at e f = simp (lt-ltb at 10802 (inside code at e whole), first-word code at e) f
+    leaf-is at e f = simp (lt-ltb at codeWords (inside code at e whole), first-word code at e) f
 
     number-is : (at n : ℕ) (rest : List ℕ) → drop at code ≡ numberWords n ++ rest → leafIn code store frame at ≡ 4294967296 + n
     unfolding numberWords
-    number-is at n rest = by (ltb n 268435456) refl
+    number-is at n rest = by (ltb n kindRange) refl
       where
-        by : (b : Bool) → ltb n 268435456 ≡ b → drop at code ≡ (elim b [ true ↦ n ∷ [] | false ↦ node 3 0 ∷ n ∷ [] ]) ++ rest → leafIn code store frame at ≡ 4294967296 + n
-        by true t e = leaf-is at e (near-node code store frame at n (ltb-true n 268435456 t))
+        by : (b : Bool) → ltb n kindRange ≡ b → drop at code ≡ (elim b [ true ↦ n ∷ [] | false ↦ node nextWordNode 0 ∷ n ∷ [] ]) ++ rest → leafIn code store frame at ≡ 4294967296 + n
+        by true t e = leaf-is at e (near-node code store frame at n (ltb-true n kindRange t))
         by false t e = leaf-is at e (far-node code store frame at ∙ far (behind code at e))
           where
             far : drop (at + 1) code ≡ n ∷ rest → numberIn code (at + 1) ≡ 4294967296 + n
-            far f = unfold numberIn in simp (lt-ltb (at + 1) 10802 (inside code (at + 1) f whole), first-word code (at + 1) f)
+            far f = unfold numberIn in simp (lt-ltb (at + 1) codeWords (inside code (at + 1) f whole), first-word code (at + 1) f)
 
     at-leaf : (d at : ℕ) {x : ℕ} (pool : List ℕ) (count : ℕ) → leafIn code store frame at ≡ x → (x ≡ 0 → ⊥)
         → operandIn code store frame d at pool count ≡ did x pool count
@@ -135,18 +137,18 @@ module _ {M : Model} (E : Engine M) where
 
     at-operator : (d at k w : ℕ) (pool : List ℕ) (count : ℕ) {rest : List ℕ}
         → drop at code ≡ node k w ∷ rest
-        → w < 268435456
+        → w < kindRange
         → leafOf code store frame at (node k w) ≡ 0
         → operandIn code store frame (suc d) at pool count
         ≡ andThenIn (operandIn code store frame d (at + 1) pool count) (secondBy code store frame (operandIn code store frame d) k (at + 1 + w))
     unfolding operandIn operandBy operatorIn operatorBy
     at-operator d at k w pool count e h f =
-        simp (leaf-is at e f, lt-ltb at 10802 (inside code at e whole), first-word code at e, kind-part k w h, other-part k w h)
+        simp (leaf-is at e f, lt-ltb at codeWords (inside code at e whole), first-word code at e, kind-part k w h, other-part k w h)
 
-    variable-is : (x : ℕ) → frame < 8 → x < 16
-        → variableIn store frame x ≡ if? (eqb (getD store (19 * frame + x) 0) 0) 1 (getD store (19 * frame + x) 0)
+    variable-is : (x : ℕ) → frame < mostFrames → x < mostVariables
+        → variableIn store frame x ≡ if? (eqb (getD store (frameWords * frame + x) 0) 0) notBound (getD store (frameWords * frame + x) 0)
     unfolding variableIn
-    variable-is x hf hx = simp (lt-ltb (19 * frame + x) 152 (omega arith))
+    variable-is x hf hx = simp (lt-ltb (frameWords * frame + x) storeWords (omega arith))
 
     slot-as : (d at : ℕ) (w : M .World) (pool : List ℕ) (count : ℕ) {o : Option (Value (M .Term))} {y : ℕ}
         → leafIn code store frame at ≡ if? (eqb y 0) 1 y
@@ -164,7 +166,7 @@ module _ {M : Model} (E : Engine M) where
     -- an operand is not longer than the words, and where the second one stands
     operand-short : (at : ℕ) {k : ℕ} (a b : Expr ℕ) (rest : List ℕ)
         → drop at code ≡ k ∷ ((exprWords a ++ exprWords b) ++ rest)
-        → length (exprWords a) < 268435456
+        → length (exprWords a) < kindRange
     operand-short at a b rest e =
         omega (arith, whole, length-drop at code, ap (λ (l : List ℕ). length l) e, length-append (exprWords a ++ exprWords b) rest, length-append (exprWords a) (exprWords b))
 
@@ -176,7 +178,7 @@ module _ {M : Model} (E : Engine M) where
         ∙ ap (λ (l : List ℕ). drop (length (exprWords a)) l) (behind code at e ∙ append-assoc (exprWords a) (exprWords b) rest)
         ∙ drop-append-seam (exprWords a) (exprWords b ++ rest)
 
-    module _ (ρ : Store (M .Term)) {variables : ℕ} (frame-as : FrameAs (E .TermAs) ρ store frame) (low : frame < 8) (few : variables ≤ 16) where
+    module _ (ρ : Store (M .Term)) {variables : ℕ} (frame-as : FrameAs (E .TermAs) ρ store frame) (low : frame < mostFrames) (few : variables ≤ mostVariables) where
       pub operand-as : {d : ℕ} {e : Expr ℕ} → ExprFits variables d e
           → (at : ℕ) (rest : List ℕ)
           → drop at code ≡ exprWords e ++ rest
@@ -206,7 +208,7 @@ module _ {M : Model} (E : Engine M) where
           (λ w u y pool count world q. operate-as E o world p q))))
 
       -- an expression, at most eight deep, evaluated
-      pub evaluate-as : {e : Expr ℕ} → ExprFits variables 8 e → (at : ℕ) → Placed code at e
+      pub evaluate-as : {e : Expr ℕ} → ExprFits variables mostDepth e → (at : ℕ) → Placed code at e
           → (w : M .World) (pool : List ℕ) (count : ℕ)
           → E .WorldAs w pool count
           → EvalAs E (eval M ρ e w) (evaluateIn code store frame at pool count)

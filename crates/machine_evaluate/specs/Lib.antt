@@ -1,3 +1,3 @@
-pub mod Evaluated
+pub mod Mirror
 pub mod Steps
 pub mod Laws

@@ -1,29 +1,29 @@
 // Evaluation of an expression that stands in the program's words (crates/machine_code), over the variables of a frame in the lent store: a value's
 // word, or an error number. By recursion with the remaining depth as the falling number; an operand that is a number, a truth or a variable
-// is no call of its own. The store has 19 words for each of 8 frames: 16 variables, 0 where nothing is bound, and the three of a return
-// place. Words are read as they stand; specs/Laws.antt shows that on a program's words this is document 01's evaluation.
+// is no call of its own. A variable that is not bound is 0 in the store. Words are read as they stand; specs/Laws.antt shows that on a program's words this is document 01's evaluation.
 ghost use mathlib.Core.Path.{_≡_};
 ghost use Prim.Native.Nat.{_+_, _*_, _/_, _%_, _<_};
-ghost use Rattle.machine_terms.specs.Made.{did};
-ghost use Rattle.machine_evaluate.specs.Evaluated.{variableIn, numberIn, leafIn, operandIn, operatorIn, evaluateIn, Simple};
+ghost use Rattle.machine_code.specs.Code.{kindRange};
+ghost use Rattle.machine_terms.specs.Mirror.{did};
+ghost use Rattle.machine_evaluate.specs.Mirror.{variableIn, numberIn, leafIn, operandIn, operatorIn, evaluateIn, Simple};
+use gil::limits::MOST_DEPTH;
+use gil::numbers;
 use machine_code::CODE_WORDS;
+use machine_code::FRAME_WORDS;
 use machine_code::KIND;
 use machine_code::NEXT_WORD;
 use machine_code::NOT;
+use machine_code::NOT_NODE;
+use machine_code::PLUS_NODE;
+use machine_code::STORE_WORDS;
 use machine_code::VARIABLE;
+use machine_code::wide;
 use machine_terms as terms;
 use machine_values as values;
 use machine_values::VALUES;
 
-// 8 frames of 19 words
-pub const STORE_WORDS: usize = 152;
-
-const FRAME_WORDS: usize = 19;
-
-// "An expression is at most eight deep"
-const DEPTH: u32 = 8;
-
-const NOT_BOUND: u64 = 1;
+// What an evaluation answers where nothing is bound
+const NOT_BOUND: u64 = numbers::NOT_BOUND as u64;
 
 fn variable(store: &[u64; STORE_WORDS], frame: u32, x: u32) -> u64
     ensures { λ r. ⌜ r ≡ variableIn (now (store .entry)) frame x ⌝ }
@@ -52,7 +52,7 @@ fn number_at(code: &[u32; CODE_WORDS], at: usize) -> u64
 // A number or a truth: the tags of their values are one more than the kinds of their nodes
 fn constant(node: u32) -> u64
     requires { ⌜ node < 536870912 ⌝ }
-    ensures { λ r. ⌜ r ≡ 4294967296 * (node / 268435456 + 1) + node % 268435456 ⌝ }
+    ensures { λ r. ⌜ r ≡ 4294967296 * (node / kindRange + 1) + node % kindRange ⌝ }
 {
     VALUES * (node / KIND + 1) as u64 + (node % KIND) as u64
 }
@@ -95,12 +95,6 @@ fn operand(
     v
 }
 
-fn wide(w: u32) -> usize
-    ensures { λ r. ⌜ (r ≡ w) × (r < 4294967296) ⌝ }
-{
-    w as usize
-}
-
 // "Both operands are always evaluated, left first, and only then are their sorts tested."
 fn operator(
     code: &[u32; CODE_WORDS],
@@ -125,7 +119,7 @@ fn operator(
     if a < VALUES {
         return a;
     }
-    if kind == 4 {
+    if kind == NOT_NODE {
         return terms::negate(pool, count, a);
     }
     let second = at + 1 + wide(node % KIND);
@@ -149,7 +143,7 @@ fn simple(code: &[u32; CODE_WORDS], at: usize, store: &[u64; STORE_WORDS], frame
     if a < VALUES {
         return 0;
     }
-    if kind < 5 {
+    if kind < PLUS_NODE {
         return 0;
     }
     let second = at + 1 + wide(node % KIND);
@@ -175,7 +169,7 @@ pub fn value(
     if v == 0 {
         let w = simple(code, at as usize, store, frame);
         if w == 0 {
-            return operator(code, at as usize, DEPTH, store, frame, pool, count);
+            return operator(code, at as usize, MOST_DEPTH, store, frame, pool, count);
         }
         return w;
     }
@@ -195,7 +189,7 @@ pub fn evaluate(
 {
     let v = leaf(code, at as usize, store, frame);
     if v == 0 {
-        return operator(code, at as usize, DEPTH, store, frame, pool, count);
+        return operator(code, at as usize, MOST_DEPTH, store, frame, pool, count);
     }
     v
 }

@@ -1,6 +1,3 @@
-pub mod Made
-pub mod Stores
-pub mod Worked
+pub mod Mirror
+pub mod Steps
 pub mod Laws
-pub mod Plain
-pub mod Pooled

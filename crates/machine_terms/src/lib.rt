@@ -1,13 +1,17 @@
 // Terms: the operators on values while exploring. "An operator is worked out at once exactly if all its operands are constants, or if it
 // is `=` on two sorts. Otherwise, where the sorts are right, it makes one term". A term is five words in the lent pool, 20 bytes at 20 × its
 // place, written where the pool has room; the count goes on past the room, so that the caller can see refusal 10. An answer below 2^32 is
-// an error number. The words are specs/Made.antt's; specs/Laws.antt shows that they are the definitions' terms.
+// an error number. The words are specs/Mirror.antt's; specs/Laws/Engine.antt shows that they are the definitions' terms.
 ghost use mathlib.Core.Path.{_≡_};
 ghost use Prim.Native.Nat.{_+_, _≤_};
 ghost use lib.ListN.{length};
 ghost use lib.Seq.{sets};
-ghost use Rattle.gil.specs.Layout.{wordBytes};
-ghost use Rattle.machine_terms.specs.Made.{did, nodeOf, madeIn, termIn, neededIn, operateIn, negateIn, inputIn};
+ghost use Rattle.gil.specs.Numbers.{termLength};
+ghost use Rattle.machine_terms.specs.Mirror.{did, nodeOf, madeIn, termIn, neededIn, operateIn, negateIn, inputIn};
+use gil::layout::TERM_BYTES;
+use gil::numbers;
+use lent_words as words;
+use machine_code::EQUAL_NODE;
 use machine_values as values;
 use machine_values::BOOLEAN_TERMS;
 use machine_values::FALSE;
@@ -15,27 +19,17 @@ use machine_values::Input;
 use machine_values::TERMS;
 
 // What an evaluation answers where the sorts are wrong
-const WRONG_SORT: u64 = 2;
-
-fn put_word(b: &mut [u8], at: usize, w: u32)
-    requires { ⌜ at + 4 ≤ length (now b) ⌝ }
-    ensures { λ _. ⌜ now (b .exit) ≡ sets (now (b .entry)) at (wordBytes w) ⌝ }
-{
-    b[at] = (w % 256) as u8;
-    b[at + 1] = (w / 256 % 256) as u8;
-    b[at + 2] = (w / 65536 % 256) as u8;
-    b[at + 3] = (w / 16777216 % 256) as u8;
-}
+const WRONG_SORT: u64 = numbers::WRONG_SORT as u64;
 
 fn put_node(pool: &mut [u8], at: usize, kind: u32, a: u64, b: u64)
-    requires { ⌜ at + 20 ≤ length (now pool) ⌝ }
+    requires { ⌜ at + termLength ≤ length (now pool) ⌝ }
     ensures { λ _. ⌜ now (pool .exit) ≡ sets (now (pool .entry)) at (nodeOf kind a b) ⌝ }
 {
-    put_word(pool, at, kind);
-    put_word(pool, at + 4, values::tag(a));
-    put_word(pool, at + 8, values::word(a));
-    put_word(pool, at + 12, values::tag(b));
-    put_word(pool, at + 16, values::word(b));
+    words::set_word(pool, at, kind);
+    words::set_word(pool, at + 4, values::tag(a));
+    words::set_word(pool, at + 8, values::word(a));
+    words::set_word(pool, at + 12, values::tag(b));
+    words::set_word(pool, at + 16, values::word(b));
 }
 
 // One more term; answers its place.
@@ -43,9 +37,9 @@ fn make(pool: &mut [u8], count: &mut u32, kind: u32, a: u64, b: u64) -> u32
     ensures { λ r. ⌜ did r (now (pool .exit)) (now (count .exit)) ≡ madeIn kind a b (now (pool .entry)) (now (count .entry)) ⌝ }
 {
     let k = *count;
-    let at = 20 * (k as usize);
+    let at = TERM_BYTES * (k as usize);
     *count = std::num::wrapping_add_u32(k, 1);
-    if at + 20 <= pool.len() {
+    if at + TERM_BYTES <= pool.len() {
         put_node(pool, at, kind, a, b);
     }
     k
@@ -55,16 +49,16 @@ fn make(pool: &mut [u8], count: &mut u32, kind: u32, a: u64, b: u64) -> u32
 pub fn input(pool: &mut [u8], count: &mut u32, i: Input) -> u64
     ensures { λ r. ⌜ did r (now (pool .exit)) (now (count .exit)) ≡ inputIn (i .0) (now (pool .entry)) (now (count .entry)) ⌝ }
 {
-    let k = make(pool, count, 1, values::number(i.0), 0);
+    let k = make(pool, count, numbers::INPUT_KIND, values::number(i.0), 0);
     TERMS + k as u64
 }
 
-// An operator's term: `+` and `-` make a number, the others a boolean
+// An operator's term: `+` and `-` make a number, the others a boolean. Its kind is two below its node's.
 fn term(pool: &mut [u8], count: &mut u32, kind: u32, a: u64, b: u64) -> u64
     ensures { λ r. ⌜ did r (now (pool .exit)) (now (count .exit)) ≡ termIn kind a b (now (pool .entry)) (now (count .entry)) ⌝ }
 {
     let k = make(pool, count, std::num::wrapping_sub_u32(kind, 2), a, b);
-    if kind < 7 {
+    if kind < EQUAL_NODE {
         TERMS + k as u64
     } else {
         BOOLEAN_TERMS + k as u64
@@ -108,11 +102,11 @@ pub fn negate(pool: &mut [u8], count: &mut u32, a: u64) -> u64
     ensures { λ r. ⌜ did r (now (pool .exit)) (now (count .exit)) ≡ negateIn a (now (pool .entry)) (now (count .entry)) ⌝ }
 {
     let sort = values::sort(a);
-    if sort == 2 {
+    if sort == numbers::BOOLEAN_TAG {
         if a < TERMS {
             return values::truth(values::word(a) == 0);
         }
-        let k = make(pool, count, 2, a, 0);
+        let k = make(pool, count, numbers::NOT_KIND, a, 0);
         return BOOLEAN_TERMS + k as u64;
     }
     WRONG_SORT

@@ -1,4 +1,4 @@
--- The words of `Packed` are document 01's values, sorts and operators: which word stands for a constant, and that the operators on words
+-- The words of Mirror are document 01's values, sorts and operators: which word stands for a constant, and that the operators on words
 -- answer the word of what the definitions answer. Assumes nothing.
 use Prim.Native.Nat.{ℕ, _+_, _-_, _/_, _%_, _<_, _≤_}
 use mathlib.Core.Bool.{Bool, true, false}
@@ -8,8 +8,9 @@ use lib.Dec.{ltb, eqb}
 use Rattle.gil.specs.Tree.{Op, plus, minus, equal, less, and, or}
 use Rattle.gil.specs.Values.{Constant, number, boolean, location, Sort, numbers, booleans, locations, sortOf, sameSort, both, Fit, right, wrong, unlike, rightIf, alikeIf, fit, numberIn, truthIn, sameTruth, sameConstant, work, workNot}
 use Rattle.gil.specs.Layout.{bit}
-use Rattle.machine_code.specs.Code.{opWord}
-use Rattle.machine_values.specs.Packed.{if?, truthWord, sortWord, neededWord, fitWord, bothWord, eitherWord, workWord}
+use Rattle.machine_code.specs.Code.{opWord, equalNode}
+use Rattle.machine_code.specs.Mirror.{if?}
+use Rattle.machine_values.specs.Mirror.{truthWord, sortWord, neededWord, fitWord, bothWord, eitherWord, workWord}
 
 -- a constant and its word; numbers and locations have 32 bits
 pub data ConstAs : Constant → ℕ → Type 0 where
@@ -169,7 +170,7 @@ same-bits false true = refl
 same-bits false false = refl
 
 work-equal : {a b : Constant} {x y : ℕ} → Alike a b → ConstAs a x → ConstAs b y
-    → ConstAs (work equal a b) (workWord 7 (x % 4294967296) (y % 4294967296))
+    → ConstAs (work equal a b) (workWord equalNode (x % 4294967296) (y % 4294967296))
 unfolding work workWord sameConstant
 work-equal (alikeNumbers m n) (aNumber hm) (aNumber hn) = rw (low-number m hm, low-number n hn) aTruth
 work-equal (alikeBooleans b d) aTruth aTruth = rw (low-truth b, low-truth d, same-bits b d) aTruth

@@ -1,10 +1,17 @@
 // Values as the engine holds them: a tag and a word in one u64, tag × 2^32 + word. Tags: 1 number, 2 boolean, 3 location, 4 number term,
 // 5 boolean term. Below 2^32 there is no value: 0 is nothing (a variable not bound), and where an evaluation answers, n is error n.
-// The operators on constants, and how the sorts of two operands fit. Kinds of operators are Code's: 5 `+`, 6 `-`, 7 `=`, 8 `<`, 9 `and`,
-// 10 `or`. The words are specs/Packed.antt's; specs/Laws.antt shows that they are document 01's values and operators.
+// The operators on constants, and how the sorts of two operands fit; an operator's kind is that of its node. The words are specs/Mirror.antt's; specs/Laws.antt shows that they are document 01's values and operators.
 ghost use mathlib.Core.Path.{_≡_};
 ghost use Prim.Native.Nat.{_+_, _/_, _%_};
-ghost use Rattle.machine_values.specs.Packed.{truthWord, sortWord, neededWord, fitWord, bothWord, eitherWord, workWord};
+ghost use Rattle.machine_values.specs.Mirror.{truthWord, sortWord, neededWord, fitWord, bothWord, eitherWord, workWord};
+use gil::numbers::BOOLEAN_TAG;
+use gil::numbers::LOCATION_TAG;
+use gil::numbers::NUMBER_TAG;
+use machine_code::AND_NODE;
+use machine_code::EQUAL_NODE;
+use machine_code::LESS_NODE;
+use machine_code::MINUS_NODE;
+use machine_code::PLUS_NODE;
 
 // "Uninterpreted symbols and interpreted ones are never confused": the number of a location, and that of an input
 pub struct Location(pub u32);
@@ -56,21 +63,29 @@ pub fn sort(v: u64) -> u32
     ensures { λ r. ⌜ r ≡ sortWord v ⌝ }
 {
     let t = tag(v);
-    if 3 < t { t - 3 } else { t }
+    if LOCATION_TAG < t {
+        t - LOCATION_TAG
+    } else {
+        t
+    }
 }
 
 // The sort that an operator other than `=` needs; `=` takes every sort, and most often numbers
 pub fn needed(kind: u32) -> u32
     ensures { λ r. ⌜ r ≡ neededWord kind ⌝ }
 {
-    if kind < 9 { 1 } else { 2 }
+    if kind < AND_NODE {
+        NUMBER_TAG
+    } else {
+        BOOLEAN_TAG
+    }
 }
 
 // How two sorts fit an operator: 0 right, 1 wrong, 2 unlike
 pub fn fit(kind: u32, s: u32, t: u32) -> u32
     ensures { λ r. ⌜ r ≡ fitWord kind s t ⌝ }
 {
-    if kind == 7 {
+    if kind == EQUAL_NODE {
         if s == t {
             return 0;
         }
@@ -91,11 +106,11 @@ pub fn work(kind: u32, x: u32, y: u32) -> u64
     ensures { λ r. ⌜ r ≡ workWord kind x y ⌝ }
 {
     match kind {
-        5 => number(std::num::wrapping_add_u32(x, y)),
-        6 => number(std::num::wrapping_sub_u32(x, y)),
-        7 => truth(x == y),
-        8 => truth(x < y),
-        9 => both(x, y),
+        PLUS_NODE => number(std::num::wrapping_add_u32(x, y)),
+        MINUS_NODE => number(std::num::wrapping_sub_u32(x, y)),
+        EQUAL_NODE => truth(x == y),
+        LESS_NODE => truth(x < y),
+        AND_NODE => both(x, y),
         _ => either(x, y),
     }
 }

@@ -1,4 +1,2 @@
-pub mod Forms
+pub mod Mirror
 pub mod Steps
-pub mod Places
-pub mod Texts

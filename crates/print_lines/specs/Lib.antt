@@ -1,6 +1,2 @@
-pub mod Forms
+pub mod Mirror
 pub mod Steps
-pub mod Printable
-pub mod Lines
-pub mod Promise
-pub mod Room

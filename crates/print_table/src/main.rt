@@ -4,11 +4,12 @@
 ghost use Prim.Native.Nat.{_+_, _≤_};
 ghost use lib.ListN.{length};
 ghost use Rattle.io.specs.Counts.{Counts};
+use gil::limits::MOST_BYTES;
 use libc::STDIN_FILENO;
 use libc::STDOUT_FILENO;
 use print_text as printed;
 
-const ROOM: usize = 16385;
+const ROOM: usize = MOST_BYTES + 1;
 
 // What reading came to: so many bytes, and whether it failed after them
 struct Input {
@@ -51,7 +52,7 @@ fn read_text(text: &mut [u8]) -> Input
 }
 
 fn print(text: &[u8]) {
-    let mut out = [0u8; 262144];
+    let mut out = [0u8; printed::PRINTED_BYTES];
     let end = printed::print_table(text, &mut out);
     if !io::write_all(STDOUT_FILENO, &out[..end]) {
         os::fail(b"standard output");

@@ -1,3 +1,2 @@
 pub mod Promise
-pub mod Explored
-pub mod Comes
+pub mod Steps

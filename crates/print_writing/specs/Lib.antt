@@ -1,2 +1,3 @@
-pub mod Written
+pub mod Mirror
+pub mod Laws
 pub mod Steps

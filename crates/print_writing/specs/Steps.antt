@@ -1,17 +1,25 @@
--- The laws that the functions' proofs cite: one more byte or digit, the end of each, and how long a number's text is. Assumes nothing.
+-- The laws that the functions' own proofs cite: one byte, one more byte or digit, and the end of each. Assumes nothing.
 use Prim.Native.Nat.{ℕ, zero, suc, _+_, _-_, _/_, _%_, _≤_, _<_}
 use native.Mathlib.Omega.{arith}
 use native.Mathlib.Numerals.{add-one, sub-one}
 use mathlib.Core.Path.{_≡_, refl, sym, _∙_, ap}
-use mathlib.Core.Bool.{Bool, true, false}
 use mathlib.Core.List.{List, [], _∷_, _++_}
-use lib.ListN.{length, getD, take, drop, length-append, length-drop, drop-of-length-le}
-use lib.Seq.{take-suc, take-all, take-nil}
-use lib.Dec.{ltb}
+use lib.ListN.{length, getD, set, take, drop, length-drop, drop-of-length-le}
+use lib.Seq.{set-out, take-suc, take-all, take-nil}
 use borrow.Author.Tests.{lt-ltb, le-ltb}
 use Rattle.gil.specs.Text.{part}
-use Rattle.gil.specs.Printed.{digits, decimal}
-use Rattle.print_writing.specs.Written.{Wrote, join, wrote-as}
+use Rattle.gil.specs.Printed.{digits}
+use Rattle.print_writing.specs.Mirror.{lastPlace, next, reached, filled, Wrote}
+use Rattle.print_writing.specs.Laws.{join, wrote-as, next-in}
+
+-- one byte, with room and with none
+pub wrote-in : (b : List ℕ) (at x : ℕ) → at < length b → length b ≤ lastPlace → Wrote b at (x ∷ []) (set b at x) (at + 1)
+unfolding filled reached
+wrote-in b at x h l = let i : at < lastPlace = omega arith in record { bytes = refl; place = sym (next-in at i) }
+
+pub wrote-out : {r : ℕ} (b : List ℕ) (at x : ℕ) → length b ≤ at → r ≡ next at → Wrote b at (x ∷ []) b r
+unfolding filled reached
+wrote-out b at x h e = record { bytes = sym (set-out b at x h); place = e }
 
 -- a text's bytes, one after another
 pub all-more :
@@ -50,23 +58,3 @@ pub digits-more : (k n : ℕ) → (k ≡ 0 → ⊥) → 10 ≤ n → digits k n 
 unfolding digits
 digits-more zero n nz h = absurd (nz refl)
 digits-more (suc k) n nz h = simp (le-ltb n 10 h, digits, sub-one)
-
-pub digits-size-more :
-    (k n r : ℕ) → (k ≡ 0 → ⊥) → 10 ≤ n → r ≡ length (digits (k - 1) (n / 10)) → r + 1 ≡ length (digits k n)
-digits-size-more k n r nz h e =
-    ap (λ (m : ℕ). m + 1) e ∙ sym (ap length (digits-more k n nz h) ∙ length-append (digits (k - 1) (n / 10)) ((48 + n % 10) ∷ []))
-
--- "decimal": at most ten bytes
-digits-length : (k n : ℕ) → length (digits k n) ≤ k + 1
-unfolding digits
-digits-length zero n = omega arith
-digits-length (suc k) n = by (ltb n 10) (digits-length k (n / 10))
-  where
-    by : (t : Bool) → length (digits k (n / 10)) ≤ k + 1
-        → length {A = ℕ} (elim t [ true ↦ (48 + n) ∷ [] | false ↦ digits k (n / 10) ++ ((48 + n % 10) ∷ []) ]) ≤ suc k + 1
-    by true h = omega arith
-    by false h = simp length-append (omega arith)
-
-pub decimal-length : (n : ℕ) → length (decimal n) ≤ 10
-unfolding decimal
-decimal-length n = digits-length 9 n

@@ -1,12 +1,20 @@
-// Text written forward into lent memory, byte after byte: each writer takes a place and gives the place after what it wrote. All are
-// total: what finds no room is not written. So two texts written one after the other are their join, whatever the room.
+// Text written forward into lent memory, byte after byte: each writer takes a place and gives the place after its text. All are total: what
+// finds no room is dropped, and counts. So two texts written one after the other are their join, whatever the room, and a pass over no
+// memory gives a text's length.
 ghost use mathlib.Core.Path.{_≡_};
 ghost use mathlib.Core.List.{[], _∷_};
-ghost use Prim.Native.Nat.{_+_, _≤_};
-ghost use lib.ListN.{length};
 ghost use Rattle.gil.specs.Text.{part};
 ghost use Rattle.gil.specs.Printed.{digits, decimal};
-ghost use Rattle.print_writing.specs.Written.{Wrote, atMost};
+ghost use Rattle.print_writing.specs.Mirror.{next, Wrote};
+
+// The last place that there is: counting ends there, which no memory reaches
+const LAST_PLACE: usize = 18446744073709551615;
+
+fn next(at: usize) -> usize
+    ensures { λ r. ⌜ r ≡ next at ⌝ }
+{
+    if at < LAST_PLACE { at + 1 } else { at }
+}
 
 // A byte, and the place after it
 pub fn put(out: &mut [u8], at: usize, x: u8) -> usize
@@ -16,7 +24,7 @@ pub fn put(out: &mut [u8], at: usize, x: u8) -> usize
         out[at] = x;
         return at + 1;
     }
-    at
+    next(at)
 }
 
 pub fn put_all(out: &mut [u8], at: usize, s: &[u8]) -> usize
@@ -64,24 +72,4 @@ pub fn put_decimal(out: &mut [u8], at: usize, n: u32) -> usize
     ensures { λ r. ⌜ Wrote (now (out .entry)) at (decimal n) (now (out .exit)) r ⌝ }
 {
     put_digits(out, at, n, 9)
-}
-
-// How many bytes those digits take
-pub fn digits_size(n: u32, more: u8) -> u32
-    ensures { λ r. ⌜ (r ≡ length (digits more n)) × (r ≤ more + 1) ⌝ }
-{
-    if more == 0 {
-        return 1;
-    }
-    if n < 10 {
-        return 1;
-    }
-    digits_size(n / 10, more - 1) + 1
-}
-
-// A count that is read, and never more than there is room for
-pub fn at_most(most: u32, n: u32) -> u32
-    ensures { λ r. ⌜ (r ≡ atMost most n) × (r ≤ most) ⌝ }
-{
-    if most < n { most } else { n }
 }

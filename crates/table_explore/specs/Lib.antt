@@ -1,5 +1,3 @@
-pub mod Walked
-pub mod Turns
-pub mod Reached
-pub mod Laws
-pub mod Leaves
+-- What the exploration's functions answer, and the laws that their proofs cite. Assumes nothing.
+pub mod Mirror
+pub mod Steps

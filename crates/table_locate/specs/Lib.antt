@@ -1,7 +1,4 @@
-pub mod Located
-pub mod Sound
-pub mod Inputs
-pub mod Terms
+-- Which row inputs fall in, read from the bytes, and that it is document 01's. Assumes nothing.
+pub mod Mirror
+pub mod Steps
 pub mod Laws
-pub mod Exploring
-pub mod Place

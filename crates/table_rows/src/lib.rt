@@ -1,14 +1,49 @@
 // The row writer: "A finished row is written into its own part of the lent table". It gets the part of the table that begins at the row, and
 // writes the words that hold something over the zeros there. Counts past their limits and a part that is too short do no harm.
-// Layout: docs/LAYOUT.md. specs/Row.antt shows that what is left is document 01's row, specs/Table.antt where rows stand in the table.
+// Layout: docs/LAYOUT.md. specs/Laws/Row.antt shows that what is left is document 01's row, specs/Laws/Table.antt where rows stand in the table.
+use gil::layout;
+use gil::layout::CELLS_AT;
+use gil::layout::CONDITIONS_AT;
+use gil::layout::HEADING_BYTES;
+use gil::layout::ROW_BYTES;
+use gil::layout::VARIABLES_AT;
+use gil::limits::MOST_BRANCHES;
+use gil::limits::MOST_CELLS;
+use gil::limits::MOST_FRAMES;
+use gil::limits::MOST_ROWS;
+use gil::limits::MOST_VARIABLES;
+use lent_words::at_most;
 use lent_words::put_word;
 use machine_cells::Cell;
+use machine_code::FRAME_WORDS;
+use machine_code::STORE_WORDS;
 use machine_values::tag;
 use machine_values::word;
 ghost use mathlib.Core.Path.{_≡_};
 ghost use mathlib.Core.List.{[], _∷_};
-ghost use Prim.Native.Nat.{min, _+_, _*_, _<_};
-ghost use Rattle.table_rows.specs.Stored.{putWords, headOf, cellOf, withConditions, withVariables, withRow, withRowAt};
+ghost use Prim.Native.Nat.{_+_, _*_, _<_};
+ghost use Rattle.gil.specs.Numbers.{mostCells, rowLength, conditionsAt, variablesAt, cellsAt};
+ghost use Rattle.lent_words.specs.Mirror.{putWords};
+ghost use Rattle.table_rows.specs.Mirror.{headOf, cellOf, conditionsHeld, variablesHeld, withRow, withRowAt};
+
+// The most conditions, variables and cells, as the types go; where the words of a head stand that begin a pair; a cell's value stands behind its place
+const CONDITIONS: usize = MOST_BRANCHES as usize;
+
+const VARIABLES: u32 = MOST_VARIABLES as u32;
+
+const CELLS: u32 = MOST_CELLS as u32;
+
+const OUTCOME_AT: usize = 4 * layout::OUTCOME_WORD as usize;
+
+const VALUE_AT: usize = 4 * layout::VALUE_WORD as usize;
+
+const PROCEDURE_AT: usize = 4 * layout::PROCEDURE_WORD as usize;
+
+const INPUTS_AT: usize = 4 * layout::INPUTS_WORD as usize;
+
+const VARIABLES_COUNT_AT: usize = 4 * layout::VARIABLES_WORD as usize;
+
+const CELL_VALUES_AT: usize = CELLS_AT + 8;
 
 // A row's first ten words. Outcome, tag and word are its outcome and value, error number or reason; the last three count what follows.
 pub struct Head {
@@ -36,17 +71,17 @@ pub fn finish_row(
     table: &mut [u8],
     number: u32,
     head: Head,
-    conditions: &[u32; 16],
-    store: &[u64; 152],
+    conditions: &[u32; CONDITIONS],
+    store: &[u64; STORE_WORDS],
     frame: u32,
-    cells: [Cell; 32],
+    cells: [Cell; MOST_CELLS],
 )
     ensures { λ _. ⌜ now (table .exit) ≡ withRowAt (now (table .entry)) number head (now (conditions .entry)) (now (store .entry)) frame cells ⌝ }
 {
-    if number >= 64 {
+    if number >= MOST_ROWS {
         return;
     }
-    let at = 64 + 1024 * number as usize;
+    let at = HEADING_BYTES + ROW_BYTES * number as usize;
     if at > table.len() {
         return;
     }
@@ -58,17 +93,17 @@ pub fn finish_row(
 pub fn write_row(
     part: &mut [u8],
     head: Head,
-    conditions: &[u32; 16],
-    store: &[u64; 152],
+    conditions: &[u32; CONDITIONS],
+    store: &[u64; STORE_WORDS],
     frame: u32,
-    cells: [Cell; 32],
+    cells: [Cell; MOST_CELLS],
 )
     ensures { λ _. ⌜ now (part .exit) ≡ withRow (now (part .entry)) head (now (conditions .entry)) (now (store .entry)) frame cells ⌝ }
 {
     write_head(part, head);
     write_conditions(part, head.conditions, conditions);
     write_variables(part, head.variables, store, frame);
-    let n = held(head.cells, 32);
+    let n = at_most(CELLS, head.cells) as usize;
     let mut i = 0;
     while i < n {
         let c = cells[i];
@@ -79,7 +114,7 @@ pub fn write_row(
 
 // Two words side by side
 fn put_pair(part: &mut [u8], at: usize, x: u32, y: u32)
-    requires { ⌜ at < 1024 ⌝ }
+    requires { ⌜ at < rowLength ⌝ }
     ensures { λ _. ⌜ now (part .exit) ≡ putWords (now (part .entry)) at (x ∷ y ∷ []) ⌝ }
 {
     put_word(part, at, x);
@@ -89,53 +124,45 @@ fn put_pair(part: &mut [u8], at: usize, x: u32, y: u32)
 fn write_head(part: &mut [u8], head: Head)
     ensures { λ _. ⌜ now (part .exit) ≡ putWords (now (part .entry)) 0 (headOf head) ⌝ }
 {
-    put_pair(part, 0, head.outcome, head.tag);
-    put_pair(part, 8, head.word, head.steps);
-    put_pair(part, 16, head.procedure, head.command);
-    put_pair(part, 24, head.inputs, head.conditions);
-    put_pair(part, 32, head.variables, head.cells);
+    put_pair(part, OUTCOME_AT, head.outcome, head.tag);
+    put_pair(part, VALUE_AT, head.word, head.steps);
+    put_pair(part, PROCEDURE_AT, head.procedure, head.command);
+    put_pair(part, INPUTS_AT, head.inputs, head.conditions);
+    put_pair(part, VARIABLES_COUNT_AT, head.variables, head.cells);
 }
 
-// A count, or the most that there is room for
-fn held(count: u32, most: usize) -> usize
-    ensures { λ r. ⌜ r ≡ min count most ⌝ }
+fn write_conditions(part: &mut [u8], count: u32, conditions: &[u32; CONDITIONS])
+    ensures { λ _. ⌜ now (part .exit) ≡ putWords (now (part .entry)) conditionsAt (conditionsHeld count (now (conditions .entry))) ⌝ }
 {
-    let n = count as usize;
-    if n < most { n } else { most }
-}
-
-fn write_conditions(part: &mut [u8], count: u32, conditions: &[u32; 16])
-    ensures { λ _. ⌜ now (part .exit) ≡ withConditions (now (part .entry)) count (now (conditions .entry)) ⌝ }
-{
-    let n = held(count, 16);
+    let n = at_most(MOST_BRANCHES, count) as usize;
     let mut i = 0;
     while i < n {
         let c = conditions[i];
-        put_pair(part, 64 + 8 * i, c / 2, c % 2);
+        put_pair(part, CONDITIONS_AT + 8 * i, c / 2, c % 2);
         i += 1;
     }
 }
 
-fn write_variables(part: &mut [u8], count: u32, store: &[u64; 152], frame: u32)
-    ensures { λ _. ⌜ now (part .exit) ≡ withVariables (now (part .entry)) count (now (store .entry)) frame ⌝ }
+fn write_variables(part: &mut [u8], count: u32, store: &[u64; STORE_WORDS], frame: u32)
+    ensures { λ _. ⌜ now (part .exit) ≡ putWords (now (part .entry)) variablesAt (variablesHeld count (now (store .entry)) frame) ⌝ }
 {
-    if frame >= 8 {
+    if frame >= MOST_FRAMES {
         return;
     }
-    let first = 19 * frame as usize;
-    let n = held(count, 16);
+    let first = FRAME_WORDS * frame as usize;
+    let n = at_most(VARIABLES, count) as usize;
     let mut i = 0;
     while i < n {
         let v = store[first + i];
-        put_pair(part, 192 + 8 * i, tag(v), word(v));
+        put_pair(part, VARIABLES_AT + 8 * i, tag(v), word(v));
         i += 1;
     }
 }
 
 fn write_cell(part: &mut [u8], i: usize, c: Cell)
-    requires { ⌜ i < 32 ⌝ }
-    ensures { λ _. ⌜ now (part .exit) ≡ putWords (now (part .entry)) (320 + 16 * i) (cellOf c) ⌝ }
+    requires { ⌜ i < mostCells ⌝ }
+    ensures { λ _. ⌜ now (part .exit) ≡ putWords (now (part .entry)) (cellsAt + 16 * i) (cellOf c) ⌝ }
 {
-    put_pair(part, 320 + 16 * i, c.location.0, c.property);
-    put_pair(part, 328 + 16 * i, tag(c.value), word(c.value));
+    put_pair(part, CELLS_AT + 16 * i, c.location.0, c.property);
+    put_pair(part, CELL_VALUES_AT + 16 * i, tag(c.value), word(c.value));
 }

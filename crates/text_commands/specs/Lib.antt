@@ -1,6 +1,2 @@
-pub mod Commands
-pub mod Effects
-pub mod Exprs
-pub mod Goes
-pub mod Seeing
-pub mod Stores
+pub mod Mirror
+pub mod Steps

@@ -1,3 +1,3 @@
-pub mod Distinct
-pub mod Lists
-pub mod Tables
+pub mod Mirror
+pub mod Laws
+pub mod Steps

@@ -7,15 +7,22 @@ ghost use Prim.Native.Nat.{_+_, _≤_, _<_, _/_, _%_, min};
 ghost use lib.ListN.{length, take};
 ghost use Rattle.gil.specs.Text;
 ghost use Rattle.gil.specs.Names.{placeOf};
-ghost use Rattle.text_tokens.specs.Seen.{nameAt};
-ghost use Rattle.text_names.specs.Tables.{Interned};
-use text_tokens as tokens;
+ghost use Rattle.text_tokens.specs.Mirror.Seen.{nameAt};
+ghost use Rattle.text_names.specs.Mirror.Tables.{Interned};
+ghost use Rattle.text_words.specs.Mirror.Kinds.{lengthRange};
+ghost use Rattle.text_names.specs.Mirror.Sizes.{mostNames, namesWords};
+use machine_code::wide;
+use text_tokens::lexemes::LENGTH_RANGE;
+use text_words::words;
 
-pub fn wide(x: u32) -> usize
-    ensures { λ r. ⌜ r ≡ x ⌝ }
-{
-    x as usize
-}
+// What a table takes at most, where its count stands, and its words
+pub const MOST_NAMES: usize = 32;
+
+pub const COUNT_AT: usize = MOST_NAMES;
+
+pub const NAMES_WORDS: usize = COUNT_AT + 1;
+
+const LENGTHS: u32 = LENGTH_RANGE as u32;
 
 fn least(a: usize, b: usize) -> usize
     ensures { λ r. ⌜ r ≡ min a b ⌝ }
@@ -28,15 +35,15 @@ fn least(a: usize, b: usize) -> usize
 
 // where the name at a place starts and ends, as far as it lies in a text of `n` bytes
 fn start_of(n: usize, place: u32) -> usize
-    ensures { λ r. ⌜ r ≡ min n (place / 32) ⌝ }
+    ensures { λ r. ⌜ r ≡ min n (place / lengthRange) ⌝ }
 {
-    least(n, (place / 32) as usize)
+    least(n, (place / LENGTHS) as usize)
 }
 
 fn end_of(n: usize, place: u32) -> usize
-    ensures { λ r. ⌜ r ≡ min n (place / 32 + place % 32) ⌝ }
+    ensures { λ r. ⌜ r ≡ min n (place / lengthRange + place % lengthRange) ⌝ }
 {
-    least(n, (place / 32 + place % 32) as usize)
+    least(n, (place / LENGTHS + place % LENGTHS) as usize)
 }
 
 // the word is the name at a place
@@ -45,13 +52,13 @@ fn is_named(text: &[u8], word: &[u8], place: u32) -> bool
 {
     let start = start_of(text.len(), place);
     let end = end_of(text.len(), place);
-    tokens::words::same(word, &text[start..end])
+    words::same(word, &text[start..end])
 }
 
 // the word's place among the first n names of a table, or n
-pub fn search(text: &[u8], word: &[u8], names: &[u32; 33], n: usize) -> usize
-    requires { ⌜ n ≤ 32 ⌝ }
-    ensures { λ r. ⌜ (length (now (names .entry)) ≡ 33 → r ≡ placeOf (now (word .entry)) (map (nameAt (now (text .entry))) (take n (now (names .entry))))) × (r ≤ n) ⌝ }
+pub fn search(text: &[u8], word: &[u8], names: &[u32; NAMES_WORDS], n: usize) -> usize
+    requires { ⌜ n ≤ mostNames ⌝ }
+    ensures { λ r. ⌜ (length (now (names .entry)) ≡ namesWords → r ≡ placeOf (now (word .entry)) (map (nameAt (now (text .entry))) (take n (now (names .entry))))) × (r ≤ n) ⌝ }
 {
     let mut i = 0;
     while i < n {
@@ -64,9 +71,9 @@ pub fn search(text: &[u8], word: &[u8], names: &[u32; 33], n: usize) -> usize
 }
 
 // the place of the name at a place of the text among the first n names of a table, or n
-pub fn find(text: &[u8], place: u32, names: &[u32; 33], n: usize) -> usize
-    requires { ⌜ n ≤ 32 ⌝ }
-    ensures { λ r. ⌜ (length (now (names .entry)) ≡ 33 → r ≡ placeOf (nameAt (now (text .entry)) place) (map (nameAt (now (text .entry))) (take n (now (names .entry))))) × (r ≤ n) ⌝ }
+pub fn find(text: &[u8], place: u32, names: &[u32; NAMES_WORDS], n: usize) -> usize
+    requires { ⌜ n ≤ mostNames ⌝ }
+    ensures { λ r. ⌜ (length (now (names .entry)) ≡ namesWords → r ≡ placeOf (nameAt (now (text .entry)) place) (map (nameAt (now (text .entry))) (take n (now (names .entry))))) × (r ≤ n) ⌝ }
 {
     let start = start_of(text.len(), place);
     let end = end_of(text.len(), place);
@@ -74,20 +81,20 @@ pub fn find(text: &[u8], place: u32, names: &[u32; 33], n: usize) -> usize
 }
 
 // the number of the name at a place in a table, which takes the name in where it is new
-pub fn intern(text: &[u8], place: u32, names: &mut [u32; 33], cap: usize) -> usize
-    requires { ⌜ cap ≤ 32 ⌝ }
+pub fn intern(text: &[u8], place: u32, names: &mut [u32; NAMES_WORDS], cap: usize) -> usize
+    requires { ⌜ cap ≤ mostNames ⌝ }
     ensures { λ r. ⌜ Interned (now (text .entry)) cap (now (names .entry)) (now (names .exit)) (nameAt (now (text .entry)) place) r × (r ≤ cap) ⌝ }
 {
-    let n = least(wide(names[32]), cap);
+    let n = least(wide(names[COUNT_AT]), cap);
     let i = find(text, place, names, n);
     if i < n {
         return i;
     }
     if n < cap {
         names[n] = place;
-        names[32] = (n + 1) as u32;
+        names[COUNT_AT] = (n + 1) as u32;
         return n;
     }
-    names[32] = (cap + 1) as u32;
+    names[COUNT_AT] = (cap + 1) as u32;
     cap
 }

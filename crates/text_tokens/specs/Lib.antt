@@ -1,6 +1,2 @@
-pub mod Bools
-pub mod Classes
-pub mod Scan
-pub mod Words
-pub mod Seen
-pub mod Marks
+pub mod Mirror
+pub mod Steps

@@ -2,13 +2,16 @@
 ghost use mathlib.Core.Path.{_≡_};
 ghost use mathlib.Core.Bool.{true};
 ghost use Prim.Native.Nat.{_+_, _*_, _≤_, _<_};
-ghost use lib.ListN.{length, drop, getD};
+ghost use lib.ListN.{drop, getD};
 ghost use Rattle.gil.specs.Text.{lexeme, tokenFrom, inRun};
-ghost use Rattle.text_tokens.specs.Marks.{lone, Marked};
-ghost use Rattle.text_tokens.specs.Seen.{Found};
-use crate::classes;
+ghost use Rattle.text_tokens.specs.Mirror.Marks.{lone, Marked};
+ghost use Rattle.text_tokens.specs.Mirror.Seen.{Found};
+ghost use Rattle.text_words.specs.Mirror.Kinds.{lengthRange};
+ghost use Rattle.gil.specs.Numbers.{mostBytes, mostCharacters};
 use crate::scan;
-use crate::words;
+use gil::limits::MOST_CHARACTERS;
+use text_words::classes;
+use text_words::words;
 
 // The kinds of tokens that are neither marks nor words; a mark's kind is its byte, a word's stands in words.
 pub const PROPERTY: u32 = 261;
@@ -17,8 +20,8 @@ pub const BECOMES: u32 = 262;
 
 pub const ENDED: u32 = 263;
 
-// A text of no more bytes is read at all; every place in it times 32 fits a word.
-pub const LONGEST: usize = 16384;
+// The place of a name or a property is where it starts, times LENGTH_RANGE, and its length, which is less.
+pub const LENGTH_RANGE: usize = 32;
 
 // a token's kind, its number or place where it has one, and the place after it
 pub struct Lexeme {
@@ -27,17 +30,17 @@ pub struct Lexeme {
     pub next: usize,
 }
 
-// the place of a name or a property: where it starts, times 32, and its length
+// The place of a name or a property; it fits a word wherever the text is one that is read at all.
 fn place_of(start: usize, n: usize) -> u32
-    requires { ⌜ (start ≤ 16384) × (n ≤ 16384) ⌝ }
-    ensures { λ r. ⌜ (n ≤ 16 → r ≡ start * 32 + n) ⌝ }
+    requires { ⌜ (start ≤ mostBytes) × (n ≤ mostBytes) ⌝ }
+    ensures { λ r. ⌜ (n ≤ mostCharacters → r ≡ start * lengthRange + n) ⌝ }
 {
-    (start * 32 + n) as u32
+    (start * LENGTH_RANGE + n) as u32
 }
 
 // "A property is 1 to 16 letters, digits or underscores in double quotes": the quote at `i`
 fn quoted(text: &[u8], i: usize) -> Lexeme
-    requires { do ⌜ (i < (← ⟦text.len()⟧)) × ((← ⟦text.len()⟧) ≤ 16384) × (getD (now text) i 0 ≡ 34) ⌝ }
+    requires { do ⌜ (i < (← ⟦text.len()⟧)) × ((← ⟦text.len()⟧) ≤ mostBytes) × (getD (now text) i 0 ≡ 34) ⌝ }
     ensures { λ r. ⌜ Found (now (text .entry)) i (tokenFrom (now (text .entry)) i (drop i (now (text .entry)))) (r .kind) (r .value) (r .next) ⌝ }
 {
     let from = i + 1;
@@ -46,7 +49,7 @@ fn quoted(text: &[u8], i: usize) -> Lexeme
     if end < text.len() {
         if text[end] == b'"' {
             if n > 0 {
-                if n < 17 {
+                if n <= MOST_CHARACTERS {
                     return Lexeme {
                         kind: PROPERTY,
                         value: place_of(from, n),
@@ -65,7 +68,7 @@ fn quoted(text: &[u8], i: usize) -> Lexeme
 
 // "`:=` is one": the colon at `i`
 fn coloned(text: &[u8], i: usize) -> Lexeme
-    requires { do ⌜ (i < (← ⟦text.len()⟧)) × ((← ⟦text.len()⟧) ≤ 16384) × (getD (now text) i 0 ≡ 58) ⌝ }
+    requires { do ⌜ (i < (← ⟦text.len()⟧)) × ((← ⟦text.len()⟧) ≤ mostBytes) × (getD (now text) i 0 ≡ 58) ⌝ }
     ensures { λ r. ⌜ Found (now (text .entry)) i (tokenFrom (now (text .entry)) i (drop i (now (text .entry)))) (r .kind) (r .value) (r .next) ⌝ }
 {
     let from = i + 1;
@@ -87,7 +90,7 @@ fn coloned(text: &[u8], i: usize) -> Lexeme
 
 // a run of characters from `i` on
 fn run(text: &[u8], i: usize) -> Lexeme
-    requires { do ⌜ (i < (← ⟦text.len()⟧)) × ((← ⟦text.len()⟧) ≤ 16384) × (inRun (getD (now text) i 0) ≡ true) ⌝ }
+    requires { do ⌜ (i < (← ⟦text.len()⟧)) × ((← ⟦text.len()⟧) ≤ mostBytes) × (inRun (getD (now text) i 0) ≡ true) ⌝ }
     ensures { λ r. ⌜ Found (now (text .entry)) i (tokenFrom (now (text .entry)) i (drop i (now (text .entry)))) (r .kind) (r .value) (r .next) ⌝ }
 {
     let end = scan::past_run(text, i);
@@ -102,7 +105,7 @@ fn run(text: &[u8], i: usize) -> Lexeme
 
 // the token that begins at `i`
 fn token_from(text: &[u8], i: usize) -> Lexeme
-    requires { do ⌜ (← ⟦text.len()⟧) ≤ 16384 ⌝ }
+    requires { do ⌜ (← ⟦text.len()⟧) ≤ mostBytes ⌝ }
     ensures { λ r. ⌜ Found (now (text .entry)) i (tokenFrom (now (text .entry)) i (drop i (now (text .entry)))) (r .kind) (r .value) (r .next) ⌝ }
 {
     if i >= text.len() {
@@ -129,7 +132,7 @@ fn token_from(text: &[u8], i: usize) -> Lexeme
 
 // the next token from a place on, past any white space
 pub fn token(text: &[u8], at: usize) -> Lexeme
-    requires { do ⌜ (← ⟦text.len()⟧) ≤ 16384 ⌝ }
+    requires { do ⌜ (← ⟦text.len()⟧) ≤ mostBytes ⌝ }
     ensures { λ r. ⌜ Found (now (text .entry)) at (lexeme (now (text .entry)) at) (r .kind) (r .value) (r .next) ⌝ }
 {
     token_from(text, scan::past_white(text, at))

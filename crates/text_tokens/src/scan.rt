@@ -3,7 +3,7 @@ ghost use mathlib.Core.Path.{_≡_};
 ghost use Prim.Native.Nat.{_+_};
 ghost use lib.ListN.{drop};
 ghost use Rattle.gil.specs.Text.{inRun, span, skipWhite};
-use crate::classes;
+use text_words::classes;
 
 // the first place from `at` on that is not white
 pub fn past_white(text: &[u8], at: usize) -> usize

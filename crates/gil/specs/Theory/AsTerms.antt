@@ -11,7 +11,7 @@ use Rattle.gil.specs.Explore.{Explored, refused, explored, waitingOn, ex
 use Rattle.gil.specs.Pool.{Ref, placeIn, Pool, pooled, table}
 use Rattle.gil.specs.Accounts.{rowWith, putVariable, putCell, putEnd}
 use Rattle.gil.specs.Theory.Trees.{Tree, trees}
-use Rattle.gil.specs.Theory.Relation.{Each, nil, cons, states}
+use Rattle.gil.specs.Theory.Relation.{Each, nil, cons, memories, states}
 use Rattle.gil.specs.Theory.Together.{Conditions, condition, Outcomes, path, RowsOf, row, Explorings, stopped, exploring, commands-rel}
 use Rattle.gil.specs.Theory.Together as Together
 use Rattle.gil.specs.Theory.PutIn.{put-store, put-cells, put-end, same-store, same-cells, same-end, parts}
@@ -53,7 +53,7 @@ module _ (w : Pool) where
 
   row-read : (r : Row Ref) (r′ : Row Tree) → (unfold pooled in RowsOf asTrees w r r′) → readRow (treesOf w) r ≡ r′
   unfolding readRow rowOf pooled rowWith
-  row-read r r′ (row n {q′} o (path (states h hs k) cs)) =
+  row-read r r′ (row n {q′} o (path (states h hs (memories k)) cs)) =
       parts r′ (outcome-read _ _ o) (conditions-read _ _ cs)
       (put-store (readValue (treesOf w)) (λ v. v) (value-read w) h ∙ same-store (λ v. v) (λ v. refl) _)
       (put-cells (readValue (treesOf w)) (λ v. v) (value-read w) k ∙ same-cells (λ v. v) (λ v. refl) _)

@@ -9,7 +9,7 @@ use Rattle.gil.specs.Machine.{Model, Cell, Store, State, End, returned, 
 use Rattle.gil.specs.Rows.{Condition, Outcome, Row, rowOf}
 use Rattle.gil.specs.Plain.{ran}
 use Rattle.gil.specs.Accounts.{rowWith, putValue, putVariable, putCell, putEnd, putOutcome, putIn}
-use Rattle.gil.specs.Theory.Relation.{Each, nil, cons, Perhaps, unbound, bound, Relation, Values, Stores, Cells, cell, States, states, Ends}
+use Rattle.gil.specs.Theory.Relation.{Each, nil, cons, Perhaps, unbound, bound, Relation, Values, Stores, Cells, cell, memories, States, states, Ends}
 use Rattle.gil.specs.Theory.Relation as Relation
 use Rattle.gil.specs.Theory.Together.{Conditions, condition, Outcomes, ended, cut, path, RowsOf, row}
 
@@ -96,7 +96,7 @@ module _
         → putIn f (rowOf o n (record { state = s; steps = m; conditions = ds }))
         ≡ putIn g (rowOf o′ n (record { state = s′; steps = m′; conditions = ds′ }))
     unfolding putIn rowOf rowWith
-    put-state n o o′ m m′ ds ds′ {s} e (states h hs k) =
+    put-state n o o′ m m′ ds ds′ {s} e (states h hs (memories k)) =
         parts (putIn f (rowOf o n (record { state = s; steps = m; conditions = ds }))) e refl
         (put-store (putValue f) (putValue g) put-value h) (put-cells (putValue f) (putValue g) put-value k)
 
@@ -124,4 +124,4 @@ pub plain-row :
 unfolding putIn rowOf ran rowWith
 plain-row o n m s e =
     parts (rowOf o n (ran m s)) e refl
-    (same-store (putValue plainly) plain-value (s .variables)) (same-cells (putValue plainly) plain-value (s .cells))
+    (same-store (putValue plainly) plain-value (s .variables)) (same-cells (putValue plainly) plain-value (s .memory .cells))

@@ -1,6 +1,6 @@
 -- Two models side by side, as source 003 relates its concrete and symbolic states: what it takes for their worlds and terms to be
--- related, and the one lemma from there to `move`: related states move to related results. A change of the commands is an edit of
--- Machine and of this file. Assumes nothing.
+-- related, and the one lemma from there to `move`: related states move to related results. Each action on the memory has a lemma of its
+-- own, which `exec`'s cases cite: a change of an action is an edit of Machine and of that lemma. Assumes nothing.
 use Prim.Native.Nat.{ℕ, zero, suc}
 use mathlib.Core.Bool.{Bool, true, false, _&&_, _||_}
 use mathlib.Core.Path.{_≡_, refl, ap, subst, subst⁻¹}
@@ -8,11 +8,12 @@ use mathlib.Core.List.{List, [], _∷_, _++_}
 use mathlib.Core.Option.{Option, none, some}
 use lib.ListN.{length, getD, set, replicate}
 use lib.Dec.{ltb, leb, eqb}
+use Rattle.gil.specs.Numbers.{mostCells, notBound, wrongSort, noSuchCell, ninthFrame, seventeenthInput, seventeenthLocation, thirtyThirdCell}
 use Rattle.gil.specs.Tree.{Op, Expr, num, bool, var, neg, bin, Cmd, assign, ifgoto, call, lookup, mutate, dispose, uSym, iSym, return, fail, vanish}
 use Rattle.gil.specs.Names.{Program}
 use Rattle.gil.specs.Values.{Constant, number, boolean, location, Sort, numbers, booleans, sortOf, sameSort, Fit, right, wrong, unlike, fit, Value, const, term, input}
 use Rattle.gil.specs.Machine
-use Rattle.gil.specs.Machine.{Model, Caller, Control, Store, Cell, State, End, Next, on, ends, fork, Result, ok, err, Act, Val, Moved, making, combine, negated}
+use Rattle.gil.specs.Machine.{Model, Caller, Control, Counters, Store, Cell, Memory, Answer, State, End, Next, on, ends, fork, Result, ok, err, Act, Val, Moved, making, combine, negated}
 use Rattle.gil.specs.Theory.Tests.{either}
 
 -- lists of one length and optional things, related one by one
@@ -77,12 +78,22 @@ module _ {M N : Model} (R : Relation M N) where
   abbrev pub Stores : M .World → Store (M .Term) → Store (N .Term) → Type 0
   Stores w = Each (Perhaps (Values w))
 
+  pub data Memories (w : M .World) : Memory (M .Term) → Memory (N .Term) → Type 0 where
+    memories :
+        {k : Counters} {cs : List (Cell (M .Term))} {cs′ : List (Cell (N .Term))} → Each (Cells w) cs cs′
+        → Memories w (record { counters = k; cells = cs }) (record { counters = k; cells = cs′ })
+
+  pub data Answers (w : M .World) : Answer (M .Term) → Answer (N .Term) → Type 0 where
+    answers :
+        {a : Value (M .Term)} {b : Value (N .Term)} {m : Memory (M .Term)} {m′ : Memory (N .Term)} → Values w a b → Memories w m m′
+        → Answers w (record { value = a; memory = m }) (record { value = b; memory = m′ })
+
   pub data States (w : M .World) : State (M .Term) → State (N .Term) → Type 0 where
     states :
         {c : Control} {ρ : Store (M .Term)} {ρ′ : Store (N .Term)} {ρs : List (Store (M .Term))} {ρs′ : List (Store (N .Term))}
-        {cs : List (Cell (M .Term))} {cs′ : List (Cell (N .Term))}
-        → Stores w ρ ρ′ → Each (Stores w) ρs ρs′ → Each (Cells w) cs cs′
-        → States w (record { control = c; variables = ρ; saved = ρs; cells = cs }) (record { control = c; variables = ρ′; saved = ρs′; cells = cs′ })
+        {m : Memory (M .Term)} {m′ : Memory (N .Term)}
+        → Stores w ρ ρ′ → Each (Stores w) ρs ρs′ → Memories w m m′
+        → States w (record { control = c; variables = ρ; saved = ρs; memory = m }) (record { control = c; variables = ρ′; saved = ρs′; memory = m′ })
 
   pub data Ends (w : M .World) : End (M .Term) → End (N .Term) → Type 0 where
     returned : {a : Value (M .Term)} {b : Value (N .Term)} → Values w a b → Ends w (Machine.returned a) (Machine.returned b)
@@ -157,8 +168,11 @@ module _ {M N : Model} {R : Relation M N} {w w′ : M .World} (g : Grows R w w�
   pub grow-cells : (cs : List (Cell (M .Term))) (cs′ : List (Cell (N .Term))) → Each (Cells R w) cs cs′ → Each (Cells R w′) cs cs′
   grow-cells = each-map grow-cell
 
+  pub grow-memory : {m : Memory (M .Term)} {m′ : Memory (N .Term)} → Memories R w m m′ → Memories R w′ m m′
+  grow-memory (memories cs) = memories (grow-cells _ _ cs)
+
   pub grow-state : {s : State (M .Term)} {s′ : State (N .Term)} → States R w s s′ → States R w′ s s′
-  grow-state (states ρ ρs cs) = states (grow-store _ _ ρ) (each-map grow-store _ _ ρs) (grow-cells _ _ cs)
+  grow-state (states ρ ρs m) = states (grow-store _ _ ρ) (each-map grow-store _ _ ρs) (grow-memory m)
 
 -- actions in a row
 module _ {M N : Model} {R : Relation M N} {A B : Type 0} {Q : M .World → A → B → Type 0} where
@@ -219,7 +233,7 @@ module _ {M N : Model} {R : Relation M N} (L : Laws R) where
       → Values R w a a′ → Values R w b b′ → Acts R (Values R) w (Machine.fitted M f o a b) (Machine.fitted N f o a′ b′)
   unfolding Machine.fitted
   fitted-rel right o w a b a′ b′ q r = L .operators w o a b a′ b′ q r
-  fitted-rel wrong o w a b a′ b′ q r = stop-rel 2
+  fitted-rel wrong o w a b a′ b′ q r = stop-rel wrongSort
   fitted-rel unlike o w a b a′ b′ q r = give-rel _ _ consts
 
   operate-rel :
@@ -231,7 +245,7 @@ module _ {M N : Model} {R : Relation M N} (L : Laws R) where
 
   negate-rel : (w : M .World) (a : Val M) (b : Val N) → Values R w a b → Acts R (Values R) w (Machine.negate M a) (Machine.negate N b)
   unfolding Machine.negate
-  negate-rel w a b q = checking 2 _ _ (ap (sameSort booleans) (sort-rel q)) (L .nots w a b q)
+  negate-rel w a b q = checking wrongSort _ _ (ap (sameSort booleans) (sort-rel q)) (L .nots w a b q)
 
   variable-rel :
       {w : M .World} {a : Option (Val M)} {b : Option (Val N)} (n : ℕ) → Perhaps (Values R w) a b
@@ -246,7 +260,7 @@ module _ {M N : Model} {R : Relation M N} (L : Laws R) where
   unfolding Machine.eval Machine._>>=_
   eval-rel (num n) w ρ ρ′ h = give-rel _ _ consts
   eval-rel (bool b) w ρ ρ′ h = give-rel _ _ consts
-  eval-rel (var x) w ρ ρ′ h = variable-rel 1 (each-getD (Perhaps (Values R w)) x h unbound)
+  eval-rel (var x) w ρ ρ′ h = variable-rel notBound (each-getD (Perhaps (Values R w)) x h unbound)
   eval-rel (neg e) w ρ ρ′ h = λ v k. and-then (eval-rel e w ρ ρ′ h v k) (λ w′ a b g q. negate-rel w′ a b q)
   eval-rel (bin o e d) w ρ ρ′ h = λ v k.
       and-then (eval-rel e w ρ ρ′ h v k) (λ w′ a a′ g q v k.
@@ -272,13 +286,13 @@ module _ {M N : Model} {R : Relation M N} (L : Laws R) {C D : Type 0} {P : M .Wo
       {w : M .World} {a : Val M} {b : Val N} (f : ℕ → Act M C) (f′ : ℕ → Act N D) → Values R w a b → ((l : ℕ) → Acts R P w (f l) (f′ l))
       → Acts R P w (Machine._>>=_ (Machine.theLocation M a) f) (Machine._>>=_ (Machine.theLocation N b) f′)
   unfolding Machine._>>=_ Machine.theLocation Machine.andThen Machine.give Machine.stop
-  locating f f′ (consts {c = number n}) rest = stop-rel 2
-  locating f f′ (consts {c = boolean t}) rest = stop-rel 2
+  locating f f′ (consts {c = number n}) rest = stop-rel wrongSort
+  locating f f′ (consts {c = boolean t}) rest = stop-rel wrongSort
   locating f f′ (consts {c = location l}) rest = rest l
-  locating f f′ (valued {c = number n} h) rest = stop-rel 2
-  locating f f′ (valued {c = boolean t} h) rest = stop-rel 2
+  locating f f′ (valued {c = number n} h) rest = stop-rel wrongSort
+  locating f f′ (valued {c = boolean t} h) rest = stop-rel wrongSort
   locating {w} f f′ (valued {t} {c = location l} h) rest = absurd (L .no-location w t l h)
-  locating f f′ (terms h) rest = stop-rel 2
+  locating f f′ (terms h) rest = stop-rel wrongSort
 
 -- the cells, and the states that commands lead to
 module _ {M N : Model} {R : Relation M N} {w : M .World} where
@@ -313,31 +327,31 @@ module _ {M N : Model} {R : Relation M N} {w : M .World} where
 
   pub start-rel : (p : Program) → States R w (Machine.start p) (Machine.start p)
   unfolding Machine.start
-  start-rel p = states (frame-rel _ consts) nil nil
+  start-rel p = states (frame-rel _ consts) nil (memories nil)
 
   steer-rel :
       (f : Control → Control) {s : State (M .Term)} {s′ : State (N .Term)} → States R w s s′
       → States R w (Machine.steer f s) (Machine.steer f s′)
   unfolding Machine.steer
-  steer-rel f (states ρ ρs cs) = states ρ ρs cs
-
-  withCells-rel :
-      {cs : List (Cell (M .Term))} {cs′ : List (Cell (N .Term))} {s : State (M .Term)} {s′ : State (N .Term)}
-      → Each (Cells R w) cs cs′ → States R w s s′ → States R w (Machine.withCells cs s) (Machine.withCells cs′ s′)
-  unfolding Machine.withCells
-  withCells-rel cs (states ρ ρs cs₀) = states ρ ρs cs
+  steer-rel f (states ρ ρs m) = states ρ ρs m
 
   assigned-rel :
       (x : ℕ) {a : Val M} {b : Val N} {s : State (M .Term)} {s′ : State (N .Term)}
       → Values R w a b → States R w s s′ → States R w (Machine.assigned x a s) (Machine.assigned x b s′)
   unfolding Machine.assigned
-  assigned-rel x v (states ρ ρs cs) = states (each-set (Perhaps (Values R w)) x ρ (bound v)) ρs cs
+  assigned-rel x v (states ρ ρs m) = states (each-set (Perhaps (Values R w)) x ρ (bound v)) ρs m
+
+  answered-rel :
+      (x : ℕ) {a : Answer (M .Term)} {b : Answer (N .Term)} {s : State (M .Term)} {s′ : State (N .Term)}
+      → Answers R w a b → States R w s s′ → States R w (Machine.answered x a s) (Machine.answered x b s′)
+  unfolding Machine.answered Machine.withMemory
+  answered-rel x (answers v m) (states ρ ρs m₀) = assigned-rel x v (states ρ ρs m)
 
   opened-rel :
       (p : Program) (x f : ℕ) {a : Val M} {b : Val N} {s : State (M .Term)} {s′ : State (N .Term)}
       → Values R w a b → States R w s s′ → States R w (Machine.opened p x f a s) (Machine.opened p x f b s′)
   unfolding Machine.opened
-  opened-rel p x f v (states ρ ρs cs) = states (frame-rel _ v) (cons ρ ρs) cs
+  opened-rel p x f v (states ρ ρs m) = states (frame-rel _ v) (cons ρ ρs) m
 
   top-rel :
       {ρs : List (Store (M .Term))} {ρs′ : List (Store (N .Term))} → Each (Stores R w) ρs ρs′
@@ -358,27 +372,72 @@ module _ {M N : Model} {R : Relation M N} {w : M .World} where
       → Values R w a b → States R w s s′ → Nexts R w (Machine.returnsTo ks a s) (Machine.returnsTo ks b s′)
   unfolding Machine.returnsTo Machine.closed
   returnsTo-rel [] v s = stops (returned v)
-  returnsTo-rel (k ∷ ks) v (states ρ ρs cs) =
-      goes (states (each-set (Perhaps (Values R w)) (k .target) (top-rel ρs) (bound v)) (below-rel ρs) cs)
+  returnsTo-rel (k ∷ ks) v (states ρ ρs m) =
+      goes (states (each-set (Perhaps (Values R w)) (k .target) (top-rel ρs) (bound v)) (below-rel ρs) m)
+
+-- every action on the memory
+module _ {M N : Model} {R : Relation M N} {w : M .World} where
+  lookedUp-rel :
+      (l q : ℕ) {m : Memory (M .Term)} {m′ : Memory (N .Term)} → Memories R w m m′
+      → Acts R (Answers R) w (Machine.lookedUp M l q m) (Machine.lookedUp N l q m′)
+  unfolding Machine.lookedUp
+  lookedUp-rel l q (memories cs) = fetching noSuchCell _ _ (cellAt-rel l q cs) (λ a b v. give-rel _ _ (answers v (memories cs)))
+
+  written-rel :
+      (l q : ℕ) {a : Val M} {b : Val N} {m : Memory (M .Term)} {m′ : Memory (N .Term)} → Values R w a b → Memories R w m m′
+      → Acts R (Answers R) w (Machine.written M l q a m) (Machine.written N l q b m′)
+  unfolding Machine.written Machine.withCells
+  written-rel l q v (memories cs) =
+      let put = putCell-rel l q v cs in
+      checking thirtyThirdCell _ _ (ap (λ (n : ℕ). leb n mostCells) (each-length put)) (give-rel _ _ (answers consts (memories put)))
+
+  dropped-rel :
+      (l : ℕ) {m : Memory (M .Term)} {m′ : Memory (N .Term)} → Memories R w m m′
+      → Acts R (Answers R) w (Machine.dropped M l m) (Machine.dropped N l m′)
+  unfolding Machine.dropped Machine.withCells
+  dropped-rel l (memories cs) = give-rel _ _ (answers consts (memories (withoutCells-rel l cs)))
+
+  freshLocation-rel :
+      (j : ℕ) {m : Memory (M .Term)} {m′ : Memory (N .Term)} → Memories R w m m′
+      → Acts R (Answers R) w (Machine.freshLocation M j m) (Machine.freshLocation N j m′)
+  unfolding Machine.freshLocation Machine.counting
+  freshLocation-rel j (memories cs) = checking seventeenthLocation _ _ refl (give-rel _ _ (answers consts (memories cs)))
+
+  freshInput-rel :
+      Laws R → (j : ℕ) {m : Memory (M .Term)} {m′ : Memory (N .Term)} → Memories R w m m′
+      → Acts R (Answers R) w (Machine.freshInput M j m) (Machine.freshInput N j m′)
+  unfolding Machine.freshInput Machine.counting
+  freshInput-rel L j (memories {k} cs) =
+      checking seventeenthInput _ _ refl (
+      receiving L (k .inputs) (λ w₁ a b g v.
+      give-rel _ _ (answers v (memories (grow-cells g _ _ cs)))))
+
+  -- its answer assigned
+  answering :
+      (x : ℕ) (r : Act M (Answer (M .Term))) (r′ : Act N (Answer (N .Term))) {s : State (M .Term)} {s′ : State (N .Term)}
+      → Acts R (Answers R) w r r′ → States R w s s′
+      → Acts R (Nexts R) w (Machine._>>=_ r (λ a. Machine.give (on (Machine.answered x a s)))) (Machine._>>=_ r′ (λ a. Machine.give (on (Machine.answered x a s′))))
+  unfolding Machine._>>=_
+  answering x r r′ h t v i = and-then (h v i) (λ w₁ a b g q. give-rel _ _ (goes (answered-rel x q (grow-state g t))))
 
 -- every command
 module _ {M N : Model} {R : Relation M N} (L : Laws R) where
   -- a jump on a term, of which the other side knows the sort
   forking-rel :
       (w : M .World) (t : M .Term) (a b : State (M .Term)) (r : Result (N .World) (Next (N .Term))) (x : Sort) → M .sort t ≡ x
-      → Results R (Nexts R) w (Machine.andThen (Machine.must (sameSort booleans x) 2 w) (λ (u : Unit {0}). Machine.give (fork t a b))) r
-      → Results R (Nexts R) w (Machine.andThen (Machine.must (sameSort booleans (M .sort t)) 2 w) (λ (u : Unit {0}). Machine.give (fork t a b))) r
+      → Results R (Nexts R) w (Machine.andThen (Machine.must (sameSort booleans x) wrongSort w) (λ (u : Unit {0}). Machine.give (fork t a b))) r
+      → Results R (Nexts R) w (Machine.andThen (Machine.must (sameSort booleans (M .sort t)) wrongSort w) (λ (u : Unit {0}). Machine.give (fork t a b))) r
   forking-rel w t a b r x e =
-      subst⁻¹ (λ (x : Sort). Results R (Nexts R) w (Machine.andThen (Machine.must (sameSort booleans x) 2 w) (λ (u : Unit {0}). Machine.give (fork t a b))) r) e
+      subst⁻¹ (λ (x : Sort). Results R (Nexts R) w (Machine.andThen (Machine.must (sameSort booleans x) wrongSort w) (λ (u : Unit {0}). Machine.give (fork t a b))) r) e
 
   jump-rel :
       (n : ℕ) (w : M .World) (a : Val M) (b : Val N) (s : State (M .Term)) (s′ : State (N .Term))
       → Values R w a b → States R w s s′ → Acts R (Nexts R) w (Machine.jump M n s a) (Machine.jump N n s′ b)
   unfolding Machine.jump Machine._>>_ Machine.andThen Machine.must Machine.give Machine.stop sameSort sortOf
-  jump-rel n w a b s s′ (consts {c = number k}) h = stop-rel 2
+  jump-rel n w a b s s′ (consts {c = number k}) h = stop-rel wrongSort
   jump-rel n w a b s s′ (consts {c = boolean true}) h = give-rel _ _ (goes (steer-rel (Machine.goto n) h))
   jump-rel n w a b s s′ (consts {c = boolean false}) h = give-rel _ _ (goes (steer-rel Machine.onward h))
-  jump-rel n w a b s s′ (consts {c = location l}) h = stop-rel 2
+  jump-rel n w a b s s′ (consts {c = location l}) h = stop-rel wrongSort
   jump-rel n w a b s s′ (valued {t} {c = number k} q) h = λ v i.
       forking-rel w t _ _ _ numbers (L .valued-sort w t (number k) q) (errs (grows-not R) i)
   jump-rel n w a b s s′ (valued {t} {c = boolean true} q) h = λ v i.
@@ -387,50 +446,43 @@ module _ {M N : Model} {R : Relation M N} (L : Laws R) where
       forking-rel w t _ _ _ booleans (L .valued-sort w t (boolean false) q) (oks (grows-not R) i (isFalse q (steer-rel Machine.onward h)))
   jump-rel n w a b s s′ (valued {t} {c = location l} q) h = λ v i. absurd (L .no-location w t l q)
   jump-rel n w a b s s′ (terms {t} {u} q) h =
-      checking 2 _ _ (ap (sameSort booleans) (L .terms-sort w t u q)) (
+      checking wrongSort _ _ (ap (sameSort booleans) (L .terms-sort w t u q)) (
       give-rel _ _ (forks q (steer-rel (Machine.goto n) h) (steer-rel Machine.onward h)))
 
   exec-rel :
       (p : Program) (d : Cmd ℕ) (w : M .World) (s : State (M .Term)) (s′ : State (N .Term))
       → States R w s s′ → Acts R (Nexts R) w (Machine.exec M p s d) (Machine.exec N p s′ d)
   unfolding Machine.exec
-  exec-rel p (assign x e) w s s′ (states ρ ρs cs) =
+  exec-rel p (assign x e) w s s′ (states ρ ρs m) =
       evaluating L e ρ (λ w₁ a b g v.
-      give-rel _ _ (goes (assigned-rel x v (grow-state g (states ρ ρs cs)))))
-  exec-rel p (ifgoto e n) w s s′ (states ρ ρs cs) =
+      give-rel _ _ (goes (assigned-rel x v (grow-state g (states ρ ρs m)))))
+  exec-rel p (ifgoto e n) w s s′ (states ρ ρs m) =
       evaluating L e ρ (λ w₁ a b g v.
-      jump-rel n w₁ a b _ _ v (grow-state g (states ρ ρs cs)))
-  exec-rel p (call x f e) w s s′ (states ρ ρs cs) =
+      jump-rel n w₁ a b _ _ v (grow-state g (states ρ ρs m)))
+  exec-rel p (call x f e) w s s′ (states ρ ρs m) =
       evaluating L e ρ (λ w₁ a b g v.
-      checking 4 _ _ refl (
-      give-rel _ _ (goes (opened-rel p x f v (grow-state g (states ρ ρs cs))))))
-  exec-rel p (lookup x e q) w s s′ (states ρ ρs cs) =
+      checking ninthFrame _ _ refl (
+      give-rel _ _ (goes (opened-rel p x f v (grow-state g (states ρ ρs m))))))
+  exec-rel p (lookup x e q) w s s′ (states ρ ρs m) =
       evaluating L e ρ (λ w₁ a b g v.
       locating L _ _ v (λ l.
-      fetching 3 _ _ (cellAt-rel l q (grow-cells g _ _ cs)) (λ c d u.
-      give-rel _ _ (goes (assigned-rel x u (grow-state g (states ρ ρs cs)))))))
-  exec-rel p (mutate x e q d) w s s′ (states ρ ρs cs) =
+      answering x _ _ (lookedUp-rel l q (grow-memory g m)) (grow-state g (states ρ ρs m))))
+  exec-rel p (mutate x e q d) w s s′ (states ρ ρs m) =
       evaluating L e ρ (λ w₁ a a′ g v.
       evaluating L d (grow-store g _ _ ρ) (λ w₂ b b′ g′ u.
       locating L _ _ (grow-value g′ a a′ v) (λ l.
-      let put = putCell-rel l q u (grow-cells (grows-on R g g′) _ _ cs) in
-      checking 7 _ _ (ap (λ (n : ℕ). leb n 32) (each-length put)) (
-      give-rel _ _ (goes (assigned-rel x consts (withCells-rel put (grow-state (grows-on R g g′) (states ρ ρs cs)))))))))
-  exec-rel p (dispose x e) w s s′ (states ρ ρs cs) =
+      let h = grows-on R g g′ in
+      answering x _ _ (written-rel l q u (grow-memory h m)) (grow-state h (states ρ ρs m)))))
+  exec-rel p (dispose x e) w s s′ (states ρ ρs m) =
       evaluating L e ρ (λ w₁ a b g v.
       locating L _ _ v (λ l.
-      give-rel _ _ (goes (assigned-rel x consts (withCells-rel (withoutCells-rel l (grow-cells g _ _ cs)) (grow-state g (states ρ ρs cs)))))))
-  exec-rel p (uSym x j) w s s′ (states ρ ρs cs) =
-      checking 6 _ _ refl (
-      give-rel _ _ (goes (assigned-rel x consts (steer-rel Machine.withLocation (states ρ ρs cs)))))
-  exec-rel p (iSym x j) w s s′ (states {c} ρ ρs cs) =
-      checking 5 _ _ refl (
-      receiving L (c .inputs) (λ w₁ a b g v.
-      give-rel _ _ (goes (assigned-rel x v (steer-rel Machine.withInput (grow-state g (states ρ ρs cs)))))))
-  exec-rel p (return e) w s s′ (states {c} ρ ρs cs) =
+      answering x _ _ (dropped-rel l (grow-memory g m)) (grow-state g (states ρ ρs m))))
+  exec-rel p (uSym x j) w s s′ (states ρ ρs m) = answering x _ _ (freshLocation-rel j m) (states ρ ρs m)
+  exec-rel p (iSym x j) w s s′ (states ρ ρs m) = answering x _ _ (freshInput-rel L j m) (states ρ ρs m)
+  exec-rel p (return e) w s s′ (states {c} ρ ρs m) =
       evaluating L e ρ (λ w₁ a b g v.
-      give-rel _ _ (returnsTo-rel (c .callers) v (grow-state g (states ρ ρs cs))))
-  exec-rel p (fail e) w s s′ (states ρ ρs cs) =
+      give-rel _ _ (returnsTo-rel (c .callers) v (grow-state g (states ρ ρs m))))
+  exec-rel p (fail e) w s s′ (states ρ ρs m) =
       evaluating L e ρ (λ w₁ a b g v.
       give-rel _ _ (stops (failed v)))
   exec-rel p vanish w s s′ h = give-rel _ _ (stops vanished)
@@ -447,4 +499,4 @@ module _ {M N : Model} {R : Relation M N} (L : Laws R) where
       (p : Program) (w : M .World) (v : N .World) (s : State (M .Term)) (s′ : State (N .Term))
       → R .Worlds w v → States R w s s′ → Moves R w (Machine.move M p w s) (Machine.move N p v s′)
   unfolding Machine.move
-  move-rel p w v s s′ k (states {c} ρ ρs cs) = settled-rel w (exec-rel p (Machine.commandAt p c) w _ _ (states ρ ρs cs) v k)
+  move-rel p w v s s′ k (states {c} ρ ρs m) = settled-rel w (exec-rel p (Machine.commandAt p c) w _ _ (states ρ ρs m) v k)

@@ -3,7 +3,8 @@ use native.Mathlib.Omega.{arith}
 use Prim.Native.Nat.{_+_, _≤_}
 use lib.ListN.{length}
 use mathlib.Core.Path.{sym}
-use Rattle.lent_words.specs.Words.{wordAt-out, wordAt-in}
+use Rattle.lent_words.specs.Steps.{wordAt-out}
+use Rattle.lent_words.specs.Laws.Words.{wordAt-in}
 use borrow.Author.Needs.{needs}
 use Rattle.lent_words.proofs.word_at.Statement.{statement}
 use Rattle.lent_words.proofs.word_at.Tie as tie

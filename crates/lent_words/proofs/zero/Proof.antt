@@ -4,7 +4,7 @@ use Prim.Native.Nat.{_≤_, _<_, _-_}
 use mathlib.Core.Path.{_≡_, refl}
 use mathlib.Core.List.{_++_}
 use lib.ListN.{length, drop, replicate, length-set}
-use Rattle.lent_words.specs.Words.{zeroed-more, zeroed-all}
+use Rattle.lent_words.specs.Steps.{zeroed-more, zeroed-all}
 use Rattle.lent_words.proofs.zero.Statement.{statement}
 use Rattle.lent_words.proofs.zero.Tie as tie
 use Rattle.lent_words.proofs.zero.Reads as reads

@@ -1,6 +1,7 @@
 -- `actions::ask` meets its contract. Assumes nothing.
 use borrow.Author.Tests.{eq-eqb, ne-eqb}
-use Rattle.machine_actions.specs.Asked.{same-asks, askSecond, askIn, word-errs, word-gives}
+use Rattle.machine_actions.specs.Mirror.{askSecond, askIn}
+use Rattle.machine_actions.specs.Steps.{same-asks, word-errs, word-gives}
 use borrow.Author.Needs.{needs}
 use Rattle.machine_actions.proofs.ask.Statement.{statement}
 use Rattle.machine_actions.proofs.ask.Tie as tie

@@ -1,6 +1,6 @@
 -- `actions::asking` meets its contract. Assumes nothing.
 use borrow.Author.Tests.{eq-eqb, ne-eqb}
-use Rattle.machine_actions.specs.Asked.{askingIn}
+use Rattle.machine_actions.specs.Mirror.{askingIn}
 use borrow.Author.Needs.{needs}
 use Rattle.machine_actions.proofs.asking.Statement.{statement}
 use Rattle.machine_actions.proofs.asking.Tie as tie

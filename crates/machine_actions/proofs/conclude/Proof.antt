@@ -1,6 +1,6 @@
 -- `actions::conclude` meets its contract. Assumes nothing.
 use borrow.Author.Tests.{eq-eqb, ne-eqb}
-use Rattle.machine_actions.specs.Asked.{concludeIn}
+use Rattle.machine_actions.specs.Mirror.{concludeIn}
 use borrow.Author.Needs.{needs}
 use Rattle.machine_actions.proofs.conclude.Statement.{statement}
 use Rattle.machine_actions.proofs.conclude.Tie as tie
@@ -8,24 +8,23 @@ use Rattle.machine_actions.proofs.conclude.Reads as reads
 use Rattle.machine_actions.proofs.conclude.Lts as lts
 use Rattle.machine_commands.proofs.assign.Reads as assign-reads
 
--- src/lib.rt:81:13
+-- src/lib.rt:105:29
+lack-requires : tie.Need-lack-requires
+lack-requires c κs = search needs
+
+-- src/lib.rt:105:9
 returns : tie.Need-returns
 unfolding concludeIn
-returns c = simp (eq-eqb _ _ (c .before .if1 .taken), eq-eqb _ _ (c .if2 .taken))
-
--- src/lib.rt:83:9
-returns-2 : tie.Need-returns-2
-unfolding concludeIn
-returns-2 c = simp (eq-eqb _ _ (c .before .if1 .taken), ne-eqb _ _ (c .if2 .left))
+returns c = simp (eq-eqb _ _ (c .before .if1 .taken), c .lack .ensures)
 
 -- src/lib.rt:85:5
 assign-requires : tie.Need-assign-requires
 assign-requires c κs = search needs
 
 -- src/lib.rt:76:1
-returns-3 : tie.Need-returns-3
+returns-2 : tie.Need-returns-2
 unfolding concludeIn
-returns-3 c = simp (ne-eqb _ _ (c .before .before .if1 .left)) (c .assign .ensures)
+returns-2 c = simp (ne-eqb _ _ (c .before .before .if1 .left)) (c .assign .ensures)
 
 pub conclude-spec : {M : Type 1} → statement M
-conclude-spec = tie.close (tie.spec returns returns-2 assign-requires returns-3)
+conclude-spec = tie.close (tie.spec lack-requires returns assign-requires returns-2)

@@ -1,9 +1,9 @@
 -- `cells::decide` meets its contract. Assumes nothing.
 use Prim.Native.Nat.{ℕ}
 use mathlib.Core.Path.{sym, _∙_, ap}
-use Rattle.machine_values.specs.Packed.{truthWord}
-use Rattle.machine_cells.specs.Held.{doing}
-use Rattle.machine_cells.specs.Deeds.{deed-look, deed-write, deed-drop, deed-none}
+use Rattle.machine_values.specs.Mirror.{truthWord}
+use Rattle.machine_cells.specs.Mirror.{doing}
+use Rattle.machine_cells.specs.Steps.Deeds.{deed-look, deed-write, deed-drop, deed-none}
 use borrow.Author.Needs.{needs}
 use Rattle.machine_cells.proofs.decide.Statement.{statement}
 use Rattle.machine_cells.proofs.decide.Tie as tie

@@ -1,6 +1,6 @@
 -- `cells::here` meets its contract. Assumes nothing.
 use borrow.Author.Tests.{lt-ltb, le-ltb}
-use Rattle.machine_cells.specs.Held.{hits}
+use Rattle.machine_cells.specs.Mirror.{hits}
 use borrow.Author.Needs.{needs}
 use Rattle.machine_cells.proofs.here.Statement.{statement}
 use Rattle.machine_cells.proofs.here.Tie as tie

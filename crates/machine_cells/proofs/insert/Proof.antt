@@ -45,8 +45,8 @@ use denote.Triple.Table.{entered}
 use denote.Triple.Walked.{says, needs, Stays, stay-slice, stay-dropped, walkOf, Walks, ends-at, walked, goes-slice, goes-dropped, walk-meets}
 use denote.Exit.{yes}
 use Rattle.machine_cells.specs.declared.Cell.{Cell}
-use Rattle.machine_cells.specs.Held.{noCell, carriedIn}
-use Rattle.machine_cells.specs.Laws.{carried-up, carried-all}
+use Rattle.machine_cells.specs.Mirror.{noCell, carriedIn}
+use Rattle.machine_cells.specs.Laws.InUse.{carried-up, carried-all}
 use Rattle.machine_cells.proofs.Cell as C
 use Rattle.machine_cells.proofs.Cell.Laws as C′
 use Rattle.machine_cells.proofs.Lent.{cell-vals, cell-makes, scaled-fits, index-fits}

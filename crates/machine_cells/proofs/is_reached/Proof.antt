@@ -1,6 +1,6 @@
 -- `cells::is_reached` meets its contract. Assumes nothing.
-use Rattle.machine_cells.specs.Held.{cellOf}
-use Rattle.machine_cells.specs.Laws.{reached-here, reached-elsewhere}
+use Rattle.machine_cells.specs.Mirror.{cellOf}
+use Rattle.machine_cells.specs.Laws.InUse.{reached-here, reached-elsewhere}
 use Rattle.machine_cells.proofs.is_reached.Statement.{statement}
 use Rattle.machine_cells.proofs.is_reached.Tie as tie
 use Rattle.machine_cells.proofs.is_reached.Reads as reads

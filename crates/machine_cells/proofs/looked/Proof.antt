@@ -1,6 +1,6 @@
 -- `cells::looked` meets its contract. Assumes nothing.
 use mathlib.Core.Path.{sym, _∙_}
-use Rattle.machine_cells.specs.Deeds.{looked-here, looked-other}
+use Rattle.machine_cells.specs.Steps.Deeds.{looked-here, looked-other}
 use borrow.Author.Needs.{needs}
 use Rattle.machine_cells.proofs.looked.Statement.{statement}
 use Rattle.machine_cells.proofs.looked.Tie as tie

@@ -1,9 +1,9 @@
 -- `cells::mutated` meets its contract. Assumes nothing.
 use Prim.Native.Nat.{ℕ, _+_}
 use mathlib.Core.Path.{sym, _∙_, ap}
-use Rattle.machine_values.specs.Packed.{truthWord}
-use Rattle.machine_cells.specs.Held.{doing}
-use Rattle.machine_cells.specs.Deeds.{mutated-here, mutated-free, mutated-full}
+use Rattle.machine_values.specs.Mirror.{truthWord}
+use Rattle.machine_cells.specs.Mirror.{doing}
+use Rattle.machine_cells.specs.Steps.Deeds.{mutated-here, mutated-free, mutated-full}
 use borrow.Author.Needs.{needs}
 use Rattle.machine_cells.proofs.mutated.Statement.{statement}
 use Rattle.machine_cells.proofs.mutated.Tie as tie

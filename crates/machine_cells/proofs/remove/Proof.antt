@@ -52,8 +52,8 @@ use Rattle.machine_values.specs.declared.Location.{Location}
 use Rattle.machine_values.proofs.Location as L
 use Rattle.machine_values.proofs.Location.Laws as L′
 use Rattle.machine_cells.specs.declared.Cell.{Cell}
-use Rattle.machine_cells.specs.Held.{noCell, heldIn, fromIn}
-use Rattle.machine_cells.specs.Laws.{removed-skip, removed-keep, removed-all}
+use Rattle.machine_cells.specs.Mirror.{noCell, heldIn, fromIn}
+use Rattle.machine_cells.specs.Laws.InUse.{removed-skip, removed-keep, removed-all}
 use Rattle.machine_cells.proofs.Cell as C
 use Rattle.machine_cells.proofs.Cell.Laws as C′
 use Rattle.machine_cells.proofs.Lent.{cell-vals, location-vals, cell-makes, scaled-fits, index-fits}

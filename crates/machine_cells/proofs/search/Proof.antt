@@ -52,9 +52,9 @@ use Rattle.machine_values.proofs.Location as L
 use Rattle.machine_values.proofs.Location.Laws as L′
 use Rattle.machine_cells.specs.declared.Cell.{Cell}
 use Rattle.machine_cells.specs.declared.Found.{Found}
-use Rattle.machine_cells.specs.Held.{cellOf, noCell, heldIn, reaches, FoundAt}
-use Rattle.machine_cells.specs.Order.{Ordered}
-use Rattle.machine_cells.specs.Halving.{Between, begins, upper, lower, ended}
+use Rattle.machine_cells.specs.Mirror.{cellOf, noCell, heldIn, reaches, FoundAt}
+use Rattle.machine_cells.specs.Laws.Order.{Ordered}
+use Rattle.machine_cells.specs.Steps.Halving.{Between, begins, upper, lower, ended}
 use Rattle.machine_cells.proofs.Cell as C
 use Rattle.machine_cells.proofs.Cell.Laws as C′
 use Rattle.machine_cells.proofs.Found as F

@@ -22,15 +22,6 @@ pub and-true : (a b : Bool) → (a && b) ≡ true → (a ≡ true) × (b ≡ tru
 and-true true b e = (refl, e)
 and-true false b e = (e, cc)
 
--- what holds of either choice under its test
-pub choose :
-    {A : Type 0} (P : A → Type 0) (b : Bool) {x y : A}
-    → (b ≡ true → P x)
-    → (b ≡ false → P y)
-    → P (elim b [ true ↦ x | false ↦ y ])
-choose P true f g = f refl
-choose P false f g = g refl
-
 module _ {A : Type 0} where
   pub each-to : {P Q : A → Type 0} {l : List A} → ((a : A) → P a → Q a) → Each P l → Each Q l
   each-to f none = none

@@ -11,8 +11,9 @@ use borrow.Author.Tests.{eqb-true, eq-eqb}
 use Rattle.gil.specs.Text.{same}
 use Rattle.gil.specs.Tree.{Name}
 use Rattle.gil.specs.Names.{any, has, placeOf, withName, withNames, distinct}
+use Rattle.gil.specs.Theory.Tests.{chosen}
 use Rattle.machine_code.specs.WellFormed.{Each, none, more}
-use Rattle.machine_code.specs.Accepted.Lists.{or-right, and-true, choose, any-append}
+use Rattle.machine_code.specs.Accepted.Lists.{or-right, and-true, any-append}
 
 -- `same` tells equality
 pub same-itself : (w : Name) → same w w ≡ true
@@ -38,7 +39,7 @@ pub placeOf-below : (w : Name) (ns : List Name) → has w ns ≡ true → placeO
 unfolding has any placeOf
 placeOf-below w [] e = let z : _≡_ {A = ℕ} 0 1 = cc in omega arith
 placeOf-below w (n ∷ ns) e =
-    choose (λ (k : ℕ). k < suc (length ns)) (same w n)
+    chosen (λ (k : ℕ). k < suc (length ns)) (same w n)
     (λ _. omega arith)
     (λ f. let h : placeOf w ns < length ns = placeOf-below w ns (rw f at e) in omega arith)
 
@@ -49,14 +50,14 @@ placeOf-within w ns h k = omega (arith, placeOf-below w ns k)
 pub withName-keeps : (ns : List Name) (v w : Name) → has w ns ≡ true → has w (withName ns v) ≡ true
 unfolding has withName
 withName-keeps ns v w e =
-    choose (λ (l : List Name). any (same w) l ≡ true) (any (same v) ns)
+    chosen (λ (l : List Name). any (same w) l ≡ true) (any (same v) ns)
     (λ _. e)
     (λ _. any-append (same w) ns (v ∷ []) ∙ ap (λ (b : Bool). b || any (same w) (v ∷ [])) e)
 
 pub withName-has : (ns : List Name) (w : Name) → has w (withName ns w) ≡ true
 unfolding has any withName
 withName-has ns w =
-    choose (λ (l : List Name). any (same w) l ≡ true) (any (same w) ns)
+    chosen (λ (l : List Name). any (same w) l ≡ true) (any (same w) ns)
     (λ t. t)
     (λ _. any-append (same w) ns (w ∷ []) ∙ or-right (any (same w) ns) (same w w || false) (rw (same-itself w)))
 

@@ -10,7 +10,7 @@ use lib.Dec.{eqb}
 use Rattle.gil.specs.Text.{Token, word, property, becomes, mark, ended, Word, Key, kIfgoto, kReturn, kFail, kVanish, kTrue, kFalse, kNot, kAnd, kOr, kLookup, kMutate, kDispose}
 use Rattle.gil.specs.Tree.{Op, plus, minus, equal, less, and, or, Expr, num, bool, var, neg, bin, Name}
 use Rattle.gil.specs.Reading.{Read, faulty, read, Reader, after, _>>=_, _>>_, done, nothing, token, ahead, isMark, isBecomes, so, theMark, theBecomes, nameOf, theName, numberOf, theNumber, propertyOf, theProperty, opMark, opKey, opWord, opOf, theOp, negation, bracketed, exprKey, exprWord, exprFrom, exprDeep, expr}
-use Rattle.machine_code.specs.Accepted.Lists.{choose}
+use Rattle.gil.specs.Theory.Tests.{chosen}
 use Rattle.machine_code.specs.Accepted.Tokens.{tokenBytes, lexeme-ends, WordFits, aName, aNumber, aKey, aUSite, anISite, aFault, wordOf-fits, asWord-fits}
 use Rattle.machine_code.specs.Accepted.Sizes.{exprSize, ExprSmall, smallNumber, smallTruth, smallVariable, smallNot, smallOperator}
 
@@ -129,10 +129,10 @@ module _ {s : List ℕ} (at n : ℕ) (h : n ≤ length s) where
   opMark-reads : at < n → (b : ℕ) → Reads s (λ o next. at < next) (opMark b) n
   unfolding opMark
   opMark-reads k b =
-      choose P (eqb b 43) (λ _. done-reads plus h k) λ _.
-      choose P (eqb b 45) (λ _. done-reads minus h k) λ _.
-      choose P (eqb b 61) (λ _. done-reads equal h k) λ _.
-      choose P (eqb b 60) (λ _. done-reads less h k) λ _. nothing-reads
+      chosen P (eqb b 43) (λ _. done-reads plus h k) λ _.
+      chosen P (eqb b 45) (λ _. done-reads minus h k) λ _.
+      chosen P (eqb b 61) (λ _. done-reads equal h k) λ _.
+      chosen P (eqb b 60) (λ _. done-reads less h k) λ _. nothing-reads
     where
       P : Reader Op → Type 0
       P r = Reads s (λ o next. at < next) r n
@@ -248,7 +248,7 @@ module _
     exprFrom-reads (property q) k = nothing-reads
     exprFrom-reads becomes k = nothing-reads
     exprFrom-reads (mark b) k =
-        choose (λ (r : Reader (Expr Name)). Reads s (ExprRead (suc d) at) r n) (eqb b 40) (λ _. bracketed-reads (omega arith)) (λ _. nothing-reads)
+        chosen (λ (r : Reader (Expr Name)). Reads s (ExprRead (suc d) at) r n) (eqb b 40) (λ _. bracketed-reads (omega arith)) (λ _. nothing-reads)
     exprFrom-reads ended k = nothing-reads
 
 pub exprDeep-reads : (s : List ℕ) (d at : ℕ) → at ≤ length s → Reads s (ExprRead d at) (exprDeep d) at

@@ -13,9 +13,10 @@ use Rattle.gil.specs.Text.{Token, word, property, becomes, mark, ended, Lexeme,
 use Rattle.gil.specs.Tree.{Name}
 use Rattle.gil.specs.Reading.{asWord}
 use Rattle.gil.specs.Names.{any}
+use Rattle.gil.specs.Theory.Tests.{chosen}
 use Rattle.machine_code.specs.Code.{numberWords}
 use Rattle.machine_code.specs.WellFormed.{Each, none, more}
-use Rattle.machine_code.specs.Accepted.Lists.{and-true, choose, none-passes}
+use Rattle.machine_code.specs.Accepted.Lists.{and-true, none-passes}
 use Rattle.machine_code.specs.Accepted.Places.{same-equal}
 
 -- the bytes that a token takes at least
@@ -35,7 +36,7 @@ pub span-length : (p : ℕ → Bool) (s : List ℕ) → span p s ≤ length s
 unfolding span
 span-length p [] = omega arith
 span-length p (b ∷ s) =
-    choose (λ (n : ℕ). n ≤ suc (length s)) (p b)
+    chosen (λ (n : ℕ). n ≤ suc (length s)) (p b)
     (λ _. let h : span p s ≤ length s = span-length p s in omega arith)
     (λ _. omega arith)
 
@@ -49,7 +50,7 @@ module _ (s : List ℕ) (at i : ℕ) (from : at ≤ i) where
   unfolding quoted tokenBytes
   quoted-ends n [] h = record { takes = omega arith; inside = omega arith }
   quoted-ends n (b ∷ after) h =
-      choose (Ends s at) (eqb b 34 && within 1 16 n)
+      chosen (Ends s at) (eqb b 34 && within 1 16 n)
       (λ _. record { takes = omega (arith, part-length s (suc i) n); inside = omega arith })
       (λ _. record { takes = omega arith; inside = omega arith })
 
@@ -57,7 +58,7 @@ module _ (s : List ℕ) (at i : ℕ) (from : at ≤ i) where
   unfolding coloned tokenBytes
   coloned-ends [] h = record { takes = omega arith; inside = omega arith }
   coloned-ends (b ∷ after) h =
-      choose (Ends s at) (eqb b 61)
+      chosen (Ends s at) (eqb b 61)
       (λ _. record { takes = omega arith; inside = omega arith })
       (λ _. record { takes = omega arith; inside = omega arith })
 
@@ -65,10 +66,10 @@ module _ (s : List ℕ) (at i : ℕ) (from : at ≤ i) where
   unfolding marked tokenBytes
   marked-ends b after h =
       let n : ℕ = span inRun after in
-      choose (Ends s at) (eqb b 34)
+      chosen (Ends s at) (eqb b 34)
       (λ _. quoted-ends n (drop n after) (omega (arith, length-drop n after, span-length inRun after)))
       λ _.
-      choose (Ends s at) (eqb b 58)
+      chosen (Ends s at) (eqb b 58)
       (λ _. coloned-ends after h)
       λ _. record { takes = omega arith; inside = omega arith }
 
@@ -77,7 +78,7 @@ module _ (s : List ℕ) (at i : ℕ) (from : at ≤ i) where
   tokenFrom-ends [] h = record { takes = omega arith; inside = omega arith }
   tokenFrom-ends (b ∷ after) h =
       let n : ℕ = suc (span inRun after) in
-      choose (Ends s at) (inRun b)
+      chosen (Ends s at) (inRun b)
       (λ _. record { takes = omega (arith, part-length s i n); inside = omega (arith, span-length inRun after) })
       (λ _. marked-ends b after (omega arith))
 
@@ -104,7 +105,7 @@ digit-few d e = leb-true d 57 (and-true (leb 48 d) (leb d 57) e .1)
 
 number-words : (n : ℕ) → length (numberWords n) ≤ 2
 unfolding numberWords
-number-words n = choose (λ (ws : List ℕ). length ws ≤ 2) (ltb n 268435456) (λ _. omega arith) (λ _. omega arith)
+number-words n = chosen (λ (ws : List ℕ). length ws ≤ 2) (ltb n 268435456) (λ _. omega arith) (λ _. omega arith)
 
 one-word : (n : ℕ) → n < 268435456 → length (numberWords n) ≡ 1
 unfolding numberWords
@@ -128,17 +129,17 @@ numbered-fits :
 unfolding numbered numeral
 numbered-fits {size} limit f ds h =
     let n : ℕ = decimalFrom 0 ds in
-    choose (λ (o : Option ℕ). WordFits size (numbered o f)) (allDigits ds && plainZero ds && leb n limit)
+    chosen (λ (o : Option ℕ). WordFits size (numbered o f)) (allDigits ds && plainZero ds && leb n limit)
     (λ t. let (x, y) = and-true (allDigits ds && plainZero ds) (leb n limit) t in h (and-true (allDigits ds) (plainZero ds) x .0) (leb-true n limit y))
     (λ _. aFault)
 
 symbol-fits : {size : ℕ} → 1 ≤ size → (w : List ℕ) → WordFits size (symbol w)
 unfolding symbol
 symbol-fits {size} h w =
-    choose (WordFits size) (same (take 5 w) uSymPrefix)
+    chosen (WordFits size) (same (take 5 w) uSymPrefix)
     (λ _. numbered-fits 255 uSite (drop 5 w) (λ _ k. aUSite h (omega arith)))
     λ _.
-    choose (WordFits size) (same (take 5 w) iSymPrefix)
+    chosen (WordFits size) (same (take 5 w) iSymPrefix)
     (λ _. numbered-fits 255 iSite (drop 5 w) (λ _ k. anISite h (omega arith)))
     λ _. aName h
 
@@ -155,14 +156,14 @@ identified-fits :
 unfolding identified find
 identified-fits w h [] none = symbol-fits h w
 identified-fits w h (e ∷ l) (more long longs) =
-    choose (λ (o : Option Key). WordFits (length w) (identified w o)) (same w (e .0))
+    chosen (λ (o : Option Key). WordFits (length w) (identified w o)) (same w (e .0))
     (λ t. aKey (omega (arith, ltb-false (length (e .0)) 2 long, ap length (same-equal w (e .0) t))))
     (λ _. identified-fits w h l longs)
 
 identifier-fits : (w : List ℕ) → 1 ≤ length w → WordFits (length w) (identifier w)
 unfolding identifier
 identifier-fits w h =
-    choose (WordFits (length w)) (leb (length w) 16)
+    chosen (WordFits (length w)) (leb (length w) 16)
     (λ _. identified-fits w h reservedWords reserved-long)
     (λ _. aFault)
 
@@ -170,7 +171,7 @@ pub wordOf-fits : (w : List ℕ) → WordFits (length w) (wordOf w)
 unfolding wordOf
 wordOf-fits [] = aFault
 wordOf-fits (b ∷ w) =
-    choose (WordFits (suc (length w))) (letter b)
+    chosen (WordFits (suc (length w))) (letter b)
     (λ _. identifier-fits (b ∷ w) (omega arith))
     (λ _. numbered-fits 4294967295 number (b ∷ w) (λ digits k. aNumber (omega arith) (omega arith) (few-words b w digits)))
 

@@ -2,7 +2,7 @@
 use mathlib.Core.Path.{ap}
 use borrow.Author.Tests.{eq-eqb, ne-eqb}
 use Rattle.machine_commands.specs.declared.Next.{Next}
-use Rattle.machine_commands.specs.Stepped.{acted, actIn}
+use Rattle.machine_commands.specs.Mirror.{acted, actIn}
 use borrow.Author.Needs.{needs}
 use Rattle.machine_commands.proofs.act.Statement.{statement}
 use Rattle.machine_commands.proofs.act.Tie as tie

@@ -1,5 +1,5 @@
 -- `commands::assign` meets its contract. Assumes nothing.
-use Rattle.machine_commands.specs.Stepped.{assignIn}
+use Rattle.machine_commands.specs.Mirror.{assignIn}
 use borrow.Author.Needs.{needs}
 use Rattle.machine_commands.proofs.assign.Statement.{statement}
 use Rattle.machine_commands.proofs.assign.Tie as tie

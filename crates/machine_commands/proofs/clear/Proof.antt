@@ -4,8 +4,8 @@ use mathlib.Core.Path.{_≡_, sym, _∙_, ap}
 use mathlib.Core.List.{List}
 use native.Mathlib.Omega.{arith}
 use borrow.Author.Needs.{needs}
-use Rattle.machine_commands.specs.Stepped.{zerosIn}
-use Rattle.machine_commands.specs.Stores.{zeros-none, zeros-more, zeros-end}
+use Rattle.machine_commands.specs.Mirror.{zerosIn}
+use Rattle.machine_commands.specs.Steps.{zeros-none, zeros-more, zeros-end}
 use Rattle.machine_commands.proofs.clear.Statement.{statement}
 use Rattle.machine_commands.proofs.clear.Tie as tie
 

@@ -1,6 +1,6 @@
 -- `commands::command_at` meets its contract. Assumes nothing.
 use borrow.Author.Tests.{lt-ltb, le-ltb}
-use Rattle.machine_commands.specs.Stepped.{commandIn}
+use Rattle.machine_commands.specs.Mirror.{commandIn}
 use borrow.Author.Needs.{needs}
 use Rattle.machine_commands.proofs.command_at.Statement.{statement}
 use Rattle.machine_commands.proofs.command_at.Tie as tie

@@ -1,7 +1,7 @@
 -- `commands::enter` meets its contract. Assumes nothing.
 use borrow.Author.Tests.{le-leb}
-use Rattle.machine_commands.specs.Stepped.{enterIn}
-use Rattle.machine_commands.specs.Stores.{entered, frame-chain}
+use Rattle.machine_commands.specs.Mirror.{enterIn}
+use Rattle.machine_commands.specs.Steps.{entered, frame-chain}
 use borrow.Author.Needs.{needs}
 use Rattle.machine_commands.proofs.enter.Statement.{statement}
 use Rattle.machine_commands.proofs.enter.Tie as tie

@@ -1,6 +1,6 @@
 -- `commands::fetch` meets its contract. Assumes nothing.
 use borrow.Author.Tests.{lt-ltb, le-ltb}
-use Rattle.machine_commands.specs.Stepped.{fetchIn}
+use Rattle.machine_commands.specs.Mirror.{fetchIn}
 use borrow.Author.Needs.{needs}
 use Rattle.machine_commands.proofs.fetch.Statement.{statement}
 use Rattle.machine_commands.proofs.fetch.Tie as tie

@@ -1,5 +1,5 @@
 -- `commands::goto` meets its contract. Assumes nothing.
-use Rattle.machine_commands.specs.Stepped.{gotoIn}
+use Rattle.machine_commands.specs.Mirror.{gotoIn}
 use borrow.Author.Needs.{needs}
 use Rattle.machine_commands.proofs.goto.Statement.{statement}
 use Rattle.machine_commands.proofs.goto.Tie as tie

@@ -1,5 +1,5 @@
 -- `commands::input` meets its contract. Assumes nothing.
-use Rattle.machine_terms.specs.Laws.{freshIn}
+use Rattle.machine_terms.specs.Laws.Engine.{freshIn}
 use borrow.Author.Needs.{needs}
 use Rattle.machine_commands.proofs.input.Statement.{statement}
 use Rattle.machine_commands.proofs.input.Tie as tie

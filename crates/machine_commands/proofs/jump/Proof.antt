@@ -1,6 +1,6 @@
 -- `commands::jump` meets its contract. Assumes nothing.
 use borrow.Author.Tests.{eq-eqb, ne-eqb}
-use Rattle.machine_commands.specs.Stepped.{jumpIn}
+use Rattle.machine_commands.specs.Mirror.{jumpIn}
 use borrow.Author.Needs.{needs}
 use Rattle.machine_commands.proofs.jump.Statement.{statement}
 use Rattle.machine_commands.proofs.jump.Tie as tie

@@ -1,7 +1,7 @@
 -- `commands::leave` meets its contract. Assumes nothing.
 use borrow.Author.Tests.{eq-eqb}
-use Rattle.machine_commands.specs.Stepped.{leaveIn}
-use Rattle.machine_commands.specs.Stores.{left}
+use Rattle.machine_commands.specs.Mirror.{leaveIn}
+use Rattle.machine_commands.specs.Steps.{left}
 use borrow.Author.Needs.{needs}
 use Rattle.machine_commands.proofs.leave.Statement.{statement}
 use Rattle.machine_commands.proofs.leave.Tie as tie

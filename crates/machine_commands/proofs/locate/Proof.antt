@@ -1,6 +1,6 @@
 -- `commands::locate` meets its contract. Assumes nothing.
 use borrow.Author.Tests.{le-leb, lt-leb}
-use Rattle.machine_commands.specs.Stepped.{locateIn}
+use Rattle.machine_commands.specs.Mirror.{locateIn}
 use borrow.Author.Needs.{needs}
 use Rattle.machine_commands.proofs.locate.Statement.{statement}
 use Rattle.machine_commands.proofs.locate.Tie as tie

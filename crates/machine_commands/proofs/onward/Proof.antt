@@ -1,5 +1,5 @@
 -- `commands::onward` meets its contract. Assumes nothing.
-use Rattle.machine_commands.specs.Stepped.{onwardIn}
+use Rattle.machine_commands.specs.Mirror.{onwardIn}
 use borrow.Author.Needs.{needs}
 use Rattle.machine_commands.proofs.onward.Statement.{statement}
 use Rattle.machine_commands.proofs.onward.Tie as tie

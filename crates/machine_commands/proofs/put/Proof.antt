@@ -1,6 +1,6 @@
 -- `commands::put` meets its contract. Assumes nothing.
 use borrow.Author.Tests.{lt-ltb, le-ltb}
-use Rattle.machine_commands.specs.Stepped.{putIn}
+use Rattle.machine_commands.specs.Mirror.{putIn}
 use borrow.Author.Needs.{needs}
 use Rattle.machine_commands.proofs.put.Statement.{statement}
 use Rattle.machine_commands.proofs.put.Tie as tie

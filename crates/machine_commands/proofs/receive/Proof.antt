@@ -1,6 +1,6 @@
 -- `commands::receive` meets its contract. Assumes nothing.
 use borrow.Author.Tests.{le-leb, lt-leb}
-use Rattle.machine_commands.specs.Stepped.{receiveIn}
+use Rattle.machine_commands.specs.Mirror.{receiveIn}
 use borrow.Author.Needs.{needs}
 use Rattle.machine_commands.proofs.receive.Statement.{statement}
 use Rattle.machine_commands.proofs.receive.Tie as tie

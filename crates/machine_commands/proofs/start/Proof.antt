@@ -1,5 +1,5 @@
 -- `commands::start` meets its contract. Assumes nothing.
-use Rattle.machine_commands.specs.Stepped.{startIn}
+use Rattle.machine_commands.specs.Mirror.{startIn}
 use borrow.Author.Needs.{needs}
 use Rattle.machine_commands.proofs.start.Statement.{statement}
 use Rattle.machine_commands.proofs.start.Tie as tie

@@ -1,6 +1,6 @@
 -- `commands::start_store` meets its contract. Assumes nothing.
 use mathlib.Core.Path.{refl}
-use Rattle.machine_commands.specs.Stepped.{startStore}
+use Rattle.machine_commands.specs.Mirror.{startStore}
 use borrow.Author.Needs.{needs}
 use Rattle.machine_commands.proofs.start_store.Statement.{statement}
 use Rattle.machine_commands.proofs.start_store.Tie as tie

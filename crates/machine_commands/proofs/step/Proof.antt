@@ -1,8 +1,8 @@
 -- `commands::step` meets its contract. Assumes nothing.
 use mathlib.Core.Path.{ap}
 use borrow.Author.Tests.{ne-eqb}
-use Rattle.machine_commands.specs.Stepped.{Acted, afterActed, stepIn}
-use Rattle.machine_commands.specs.Stores.{value-errs, value-acts}
+use Rattle.machine_commands.specs.Mirror.{Acted, afterActed, stepIn}
+use Rattle.machine_commands.specs.Steps.{value-errs, value-acts}
 use borrow.Author.Needs.{needs}
 use Rattle.machine_commands.proofs.step.Statement.{statement}
 use Rattle.machine_commands.proofs.step.Tie as tie

@@ -1,6 +1,6 @@
 -- `commands::word` meets its contract. Assumes nothing.
 use borrow.Author.Tests.{lt-ltb, le-ltb}
-use Rattle.machine_commands.specs.Stepped.{wordIn}
+use Rattle.machine_commands.specs.Mirror.{wordIn}
 use borrow.Author.Needs.{needs}
 use Rattle.machine_commands.proofs.word.Statement.{statement}
 use Rattle.machine_commands.proofs.word.Tie as tie

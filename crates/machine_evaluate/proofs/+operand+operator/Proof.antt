@@ -1,7 +1,7 @@
 -- `evaluate::operand` and `evaluate::operator` meet their contracts. Assumes nothing.
 use native.Mathlib.Omega.{arith}
 use borrow.Author.Tests.{eq-eqb, ne-eqb}
-use Rattle.machine_evaluate.specs.Evaluated.{operandIn, operandBy}
+use Rattle.machine_evaluate.specs.Mirror.{operandIn, operandBy}
 use Rattle.machine_evaluate.specs.Steps.{past-depth, past-end, first-errs, negates, second-errs, operates}
 use Prim.Native.Nat.{ℕ, _+_, _<_}
 use borrow.Author.Needs.{needs}
@@ -14,7 +14,7 @@ use Rattle.machine_evaluate.proofs.operator.Reads as operator
 use Rattle.machine_evaluate.proofs.operator.Kinds as operator-kinds
 use Rattle.machine_evaluate.proofs.+operand+operator.Lts-operator as operator-lts
 use Rattle.machine_evaluate.proofs.leaf.Reads as leaf-reads
-use Rattle.machine_evaluate.proofs.wide.Reads as wide-reads
+use Rattle.machine_code.proofs.wide.Reads as wide-reads
 use Rattle.machine_terms.proofs.negate.Reads as negate-reads
 use Rattle.machine_terms.proofs.operate.Reads as operate-reads
 use Rattle.machine_evaluate.proofs.+operand+operator.{statement}

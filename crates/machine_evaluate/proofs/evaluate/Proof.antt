@@ -1,6 +1,6 @@
 -- `evaluate::evaluate` meets its contract. Assumes nothing.
 use borrow.Author.Tests.{eq-eqb, ne-eqb}
-use Rattle.machine_evaluate.specs.Evaluated.{evaluateIn, operandIn, operandBy}
+use Rattle.machine_evaluate.specs.Mirror.{evaluateIn, operandIn, operandBy}
 use borrow.Author.Needs.{needs}
 use Rattle.machine_evaluate.proofs.evaluate.Statement.{statement}
 use Rattle.machine_evaluate.proofs.evaluate.Tie as tie

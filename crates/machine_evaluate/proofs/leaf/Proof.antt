@@ -1,6 +1,6 @@
 -- `evaluate::leaf` meets its contract. Assumes nothing.
 use borrow.Author.Tests.{lt-ltb, le-ltb}
-use Rattle.machine_evaluate.specs.Evaluated.{leafIn, leafOf}
+use Rattle.machine_evaluate.specs.Mirror.{leafIn, leafOf}
 use borrow.Author.Needs.{needs}
 use Rattle.machine_evaluate.proofs.leaf.Statement.{statement}
 use Rattle.machine_evaluate.proofs.leaf.Tie as tie

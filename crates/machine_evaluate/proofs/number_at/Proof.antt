@@ -1,6 +1,6 @@
 -- `evaluate::number_at` meets its contract. Assumes nothing.
 use borrow.Author.Tests.{lt-ltb, le-ltb}
-use Rattle.machine_evaluate.specs.Evaluated.{numberIn}
+use Rattle.machine_evaluate.specs.Mirror.{numberIn}
 use borrow.Author.Needs.{needs}
 use Rattle.machine_evaluate.proofs.number_at.Statement.{statement}
 use Rattle.machine_evaluate.proofs.number_at.Tie as tie

@@ -1,6 +1,6 @@
 -- `evaluate::simple` meets its contract. Assumes nothing.
 use mathlib.Core.Path.{sym, _∙_}
-use Rattle.machine_evaluate.specs.Evaluated.{notSimple}
+use Rattle.machine_evaluate.specs.Mirror.{notSimple}
 use Rattle.machine_evaluate.specs.Steps.{simply-worked}
 use borrow.Author.Needs.{needs}
 use Rattle.machine_evaluate.proofs.simple.Statement.{statement}
@@ -8,7 +8,7 @@ use Rattle.machine_evaluate.proofs.simple.Tie as tie
 use Rattle.machine_evaluate.proofs.simple.Reads as reads
 use Rattle.machine_evaluate.proofs.simple.Lts as lts
 use Rattle.machine_evaluate.proofs.leaf.Reads as leaf-reads
-use Rattle.machine_evaluate.proofs.wide.Reads as wide-reads
+use Rattle.machine_code.proofs.wide.Reads as wide-reads
 use Rattle.machine_terms.proofs.needed.Reads as needed-reads
 use Rattle.machine_values.proofs.word.Reads as word-reads
 use Rattle.machine_values.proofs.work.Reads as work-reads

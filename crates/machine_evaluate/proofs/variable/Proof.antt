@@ -1,6 +1,6 @@
 -- `evaluate::variable` meets its contract. Assumes nothing.
 use borrow.Author.Tests.{eq-eqb, ne-eqb, lt-ltb, le-ltb}
-use Rattle.machine_evaluate.specs.Evaluated.{variableIn}
+use Rattle.machine_evaluate.specs.Mirror.{variableIn}
 use borrow.Author.Needs.{needs}
 use Rattle.machine_evaluate.proofs.variable.Statement.{statement}
 use Rattle.machine_evaluate.proofs.variable.Tie as tie

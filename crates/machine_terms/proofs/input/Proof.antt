@@ -1,7 +1,7 @@
 -- `terms::input` meets its contract. Assumes nothing.
 use Prim.Native.Nat.{_+_}
 use mathlib.Core.Path.{ap}
-use Rattle.machine_terms.specs.Made.{Did, did, inputIn, madeIn}
+use Rattle.machine_terms.specs.Mirror.{Did, did, inputIn, madeIn}
 use borrow.Author.Needs.{needs}
 use Rattle.machine_terms.proofs.input.Statement.{statement}
 use Rattle.machine_terms.proofs.input.Tie as tie

@@ -1,6 +1,6 @@
 -- `terms::make` meets its contract. Assumes nothing.
 use borrow.Author.Tests.{le-leb, lt-leb}
-use Rattle.machine_terms.specs.Made.{madeIn, poolWith}
+use Rattle.machine_terms.specs.Mirror.{madeIn, poolWith}
 use borrow.Author.Needs.{needs}
 use Rattle.machine_terms.proofs.make.Statement.{statement}
 use Rattle.machine_terms.proofs.make.Tie as tie

@@ -1,6 +1,6 @@
 -- `terms::needed` meets its contract. Assumes nothing.
 use borrow.Author.Tests.{eq-eqb, ne-eqb}
-use Rattle.machine_terms.specs.Made.{neededIn}
+use Rattle.machine_terms.specs.Mirror.{neededIn}
 use borrow.Author.Needs.{needs}
 use Rattle.machine_terms.proofs.needed.Statement.{statement}
 use Rattle.machine_terms.proofs.needed.Tie as tie

@@ -2,7 +2,7 @@
 use Prim.Native.Nat.{_+_}
 use mathlib.Core.Path.{ap}
 use borrow.Author.Tests.{eq-eqb, ne-eqb, lt-ltb, le-ltb}
-use Rattle.machine_terms.specs.Made.{Did, did, negateIn, madeIn}
+use Rattle.machine_terms.specs.Mirror.{Did, did, negateIn, madeIn}
 use borrow.Author.Needs.{needs}
 use Rattle.machine_terms.proofs.negate.Statement.{statement}
 use Rattle.machine_terms.proofs.negate.Tie as tie

@@ -1,8 +1,8 @@
 -- `terms::operate` meets its contract. Assumes nothing.
 use borrow.Author.Tests.{eq-eqb, ne-eqb, lt-ltb, le-ltb}
-use Rattle.machine_terms.specs.Made.{operateIn}
+use Rattle.machine_terms.specs.Mirror.{operateIn}
 use mathlib.Core.Path.{sym, _∙_}
-use Rattle.machine_terms.specs.Worked.{worked}
+use Rattle.machine_terms.specs.Steps.Worked.{worked}
 use borrow.Author.Needs.{needs}
 use Rattle.machine_terms.proofs.operate.Statement.{statement}
 use Rattle.machine_terms.proofs.operate.Tie as tie

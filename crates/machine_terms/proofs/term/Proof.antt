@@ -3,7 +3,7 @@ use Prim.Native.Nat.{_+_, _%_}
 use mathlib.Core.Path.{_≡_, ap}
 use native.Mathlib.Omega.{arith}
 use borrow.Author.Tests.{lt-ltb, le-ltb}
-use Rattle.machine_terms.specs.Made.{Did, did, termIn, madeIn}
+use Rattle.machine_terms.specs.Mirror.{Did, did, termIn, madeIn}
 use borrow.Author.Needs.{needs}
 use Rattle.machine_terms.proofs.term.Statement.{statement}
 use Rattle.machine_terms.proofs.term.Tie as tie

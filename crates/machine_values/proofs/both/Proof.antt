@@ -1,6 +1,6 @@
 -- `values::both` meets its contract. Assumes nothing.
 use borrow.Author.Tests.{eq-eqb, ne-eqb}
-use Rattle.machine_values.specs.Packed.{bothWord}
+use Rattle.machine_values.specs.Mirror.{bothWord}
 use borrow.Author.Needs.{needs}
 use Rattle.machine_values.proofs.both.Statement.{statement}
 use Rattle.machine_values.proofs.both.Tie as tie

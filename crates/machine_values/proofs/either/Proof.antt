@@ -1,6 +1,6 @@
 -- `values::either` meets its contract. Assumes nothing.
 use borrow.Author.Tests.{eq-eqb, ne-eqb}
-use Rattle.machine_values.specs.Packed.{eitherWord}
+use Rattle.machine_values.specs.Mirror.{eitherWord}
 use borrow.Author.Needs.{needs}
 use Rattle.machine_values.proofs.either.Statement.{statement}
 use Rattle.machine_values.proofs.either.Tie as tie

@@ -1,6 +1,6 @@
 -- `values::fit` meets its contract. Assumes nothing.
 use borrow.Author.Tests.{eq-eqb, ne-eqb}
-use Rattle.machine_values.specs.Packed.{fitWord}
+use Rattle.machine_values.specs.Mirror.{fitWord}
 use borrow.Author.Needs.{needs}
 use Rattle.machine_values.proofs.fit.Statement.{statement}
 use Rattle.machine_values.proofs.fit.Tie as tie

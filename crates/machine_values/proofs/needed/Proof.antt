@@ -1,6 +1,6 @@
 -- `values::needed` meets its contract. Assumes nothing.
 use borrow.Author.Tests.{lt-ltb, le-ltb}
-use Rattle.machine_values.specs.Packed.{neededWord}
+use Rattle.machine_values.specs.Mirror.{neededWord}
 use Rattle.machine_values.proofs.needed.Statement.{statement}
 use Rattle.machine_values.proofs.needed.Tie as tie
 

@@ -1,6 +1,6 @@
 -- `values::sort` meets its contract. Assumes nothing.
 use borrow.Author.Tests.{lt-ltb, le-ltb}
-use Rattle.machine_values.specs.Packed.{sortWord}
+use Rattle.machine_values.specs.Mirror.{sortWord}
 use borrow.Author.Needs.{needs}
 use Rattle.machine_values.proofs.sort.Statement.{statement}
 use Rattle.machine_values.proofs.sort.Tie as tie

@@ -1,5 +1,5 @@
 -- `values::truth` meets its contract. Assumes nothing.
-use Rattle.machine_values.specs.Packed.{truthWord}
+use Rattle.machine_values.specs.Mirror.{truthWord}
 use borrow.Author.Needs.{needs}
 use Rattle.machine_values.proofs.truth.Statement.{statement}
 use Rattle.machine_values.proofs.truth.Tie as tie

@@ -3,7 +3,7 @@ use Prim.Native.Nat.{ℕ, _+_}
 use mathlib.Core.Path.{_∙_, ap}
 use native.Mathlib.Omega.{arith}
 use borrow.Author.Tests.{ne-eqb}
-use Rattle.machine_values.specs.Packed.{workWord}
+use Rattle.machine_values.specs.Mirror.{workWord}
 use borrow.Author.Needs.{needs}
 use Rattle.machine_values.proofs.work.Statement.{statement}
 use Rattle.machine_values.proofs.work.Tie as tie

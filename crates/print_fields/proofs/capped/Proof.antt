@@ -1,6 +1,6 @@
 -- `fields::capped` meets its contract. Assumes nothing.
 use borrow.Author.Tests.{lt-ltb, le-ltb}
-use Rattle.print_fields.specs.Forms as forms
+use Rattle.print_fields.specs.Mirror as forms
 use borrow.Author.Needs.{needs}
 use Rattle.print_fields.proofs.capped.Statement.{statement}
 use Rattle.print_fields.proofs.capped.Tie as tie

@@ -3,7 +3,7 @@ use Prim.Native.Nat.{_≤_, _-_}
 use mathlib.Core.Path.{_≡_}
 use native.Mathlib.Omega.{arith}
 use borrow.Author.Needs.{needs}
-use Rattle.print_fields.specs.Forms.{sizesTo}
+use Rattle.print_fields.specs.Mirror.{sizesTo}
 use Rattle.print_fields.specs.Steps.{sizes-more, sizes-none}
 use Rattle.print_fields.proofs.measure.Statement.{statement}
 use Rattle.print_fields.proofs.measure.Tie as tie

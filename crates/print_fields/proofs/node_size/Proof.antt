@@ -3,32 +3,27 @@ use native.Mathlib.Omega.{arith}
 use Prim.Native.Nat.{ℕ, _+_}
 use mathlib.Core.Path.{ap}
 use borrow.Author.Tests.{eq-eqb, ne-eqb}
-use Rattle.gil.specs.Printed.{decimal}
-use Rattle.print_fields.specs.Forms.{nodeSize}
+use Rattle.print_fields.specs.Mirror.{nodeSize}
 use borrow.Author.Needs.{needs}
 use Rattle.print_fields.proofs.node_size.Statement.{statement}
 use Rattle.print_fields.proofs.node_size.Tie as tie
 
--- src/lib.rt:183:20
-digits-size-requires : tie.Need-digits-size-requires
-digits-size-requires c κs = search needs
-
 -- src/lib.rt:183:16
-add-result : tie.Need-add-result
-add-result c = search needs
+input-size-requires : tie.Need-input-size-requires
+input-size-requires c κs = search needs
 
 -- src/lib.rt:183:9
 returns : tie.Need-returns
-unfolding nodeSize decimal
-returns c = simp (eq-eqb _ _ (c .before .if1 .taken)) (ap (λ (n : ℕ). 1 + n) (c .digits-size .ensures .0))
+unfolding nodeSize
+returns c = simp (eq-eqb _ _ (c .before .if1 .taken)) (c .input-size .ensures .0)
 
 -- src/lib.rt:186:20
 value-size-requires : tie.Need-value-size-requires
 value-size-requires c κs = search needs
 
 -- src/lib.rt:186:16
-add-result-2 : tie.Need-add-result-2
-add-result-2 c = search needs
+add-result : tie.Need-add-result
+add-result c = search needs
 
 -- src/lib.rt:186:9
 returns-2 : tie.Need-returns-2
@@ -40,24 +35,24 @@ value-size-requires-2 : tie.Need-value-size-requires-2
 value-size-requires-2 c κs = search needs
 
 -- src/lib.rt:188:5
-add-result-3 : tie.Need-add-result-3
-add-result-3 c = search needs
+add-result-2 : tie.Need-add-result-2
+add-result-2 c = search needs
 
 -- src/lib.rt:188:35
 op-size-requires : tie.Need-op-size-requires
 op-size-requires c κs = search needs
 
 -- src/lib.rt:188:5
-add-result-4 : tie.Need-add-result-4
-add-result-4 c = search needs
+add-result-3 : tie.Need-add-result-3
+add-result-3 c = search needs
 
 -- src/lib.rt:188:51
 value-size-requires-3 : tie.Need-value-size-requires-3
 value-size-requires-3 c κs = search needs
 
 -- src/lib.rt:188:5
-add-result-5 : tie.Need-add-result-5
-add-result-5 c = search needs
+add-result-4 : tie.Need-add-result-4
+add-result-4 c = search needs
 
 -- src/lib.rt:179:1
 returns-3 : tie.Need-returns-3
@@ -68,16 +63,15 @@ pub node-size-spec : {M : Type 1} → statement M
 node-size-spec =
     tie.close
     (tie.spec
-    digits-size-requires
-    add-result
+    input-size-requires
     returns
     value-size-requires
-    add-result-2
+    add-result
     returns-2
     value-size-requires-2
-    add-result-3
+    add-result-2
     op-size-requires
-    add-result-4
+    add-result-3
     value-size-requires-3
-    add-result-5
+    add-result-4
     returns-3)

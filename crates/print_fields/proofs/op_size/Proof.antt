@@ -1,41 +1,26 @@
 -- `fields::op_size` meets its contract. Assumes nothing.
 use native.Mathlib.Omega.{arith}
-use mathlib.Core.Path.{refl}
-use borrow.Author.Tests.{ne-eqb}
-use Rattle.gil.specs.Text.{bytes}
-use Rattle.print_fields.specs.Forms.{opForm}
+use Rattle.print_values.specs.Laws.{op-length}
+use Rattle.print_fields.specs.Steps.{sized}
+use borrow.Author.Needs.{needs}
 use Rattle.print_fields.proofs.op_size.Statement.{statement}
 use Rattle.print_fields.proofs.op_size.Tie as tie
 
--- src/lib.rt:133:1
+-- src/lib.rt:92:12
+slice-aggregate-put-op : tie.Need-slice-aggregate-put-op
+slice-aggregate-put-op c = search needs
+
+-- src/lib.rt:92:5
+put-op-requires : tie.Need-put-op-requires
+put-op-requires c κs = search needs
+
+-- src/lib.rt:92:5
+cast-result : tie.Need-cast-result
+cast-result c = let e = sized 5 (omega arith) (op-length _) (c .before .put-op .ensures) in omega (arith, e .1)
+
+-- src/lib.rt:89:1
 returns : tie.Need-returns
-unfolding opForm bytes
-returns c = rw (c .match .keys1) (refl, omega arith)
-
--- src/lib.rt:133:1
-returns-2 : tie.Need-returns-2
-unfolding opForm bytes
-returns-2 c = rw (c .match .keys2) (refl, omega arith)
-
--- src/lib.rt:133:1
-returns-3 : tie.Need-returns-3
-unfolding opForm bytes
-returns-3 c = rw (c .match .keys3) (refl, omega arith)
-
--- src/lib.rt:133:1
-returns-4 : tie.Need-returns-4
-unfolding opForm bytes
-returns-4 c = rw (c .match .keys4) (refl, omega arith)
-
--- src/lib.rt:133:1
-returns-5 : tie.Need-returns-5
-unfolding opForm bytes
-returns-5 c = rw (c .match .keys5) (refl, omega arith)
-
--- src/lib.rt:133:1
-returns-6 : tie.Need-returns-6
-unfolding opForm bytes
-returns-6 c = simp (ne-eqb _ _ (c .match .rest .0 .0 .0 .0 .1), ne-eqb _ _ (c .match .rest .0 .0 .0 .1), ne-eqb _ _ (c .match .rest .0 .0 .1), ne-eqb _ _ (c .match .rest .0 .1), ne-eqb _ _ (c .match .rest .1)) (refl, omega arith)
+returns c = sized 5 (omega arith) (op-length _) (c .before .put-op .ensures)
 
 pub op-size-spec : {M : Type 1} → statement M
-op-size-spec = tie.close (tie.spec returns returns-2 returns-3 returns-4 returns-5 returns-6)
+op-size-spec = tie.close (tie.spec slice-aggregate-put-op put-op-requires cast-result returns)

@@ -1,7 +1,7 @@
 -- `fields::put_field` meets its contract. Assumes nothing.
 use borrow.Author.Tests.{lt-ltb, le-ltb}
 use Rattle.gil.specs.Text.{bytes}
-use Rattle.print_fields.specs.Forms.{fieldForm}
+use Rattle.print_fields.specs.Mirror.{fieldForm}
 use borrow.Author.Needs.{needs}
 use Rattle.print_fields.proofs.put_field.Statement.{statement}
 use Rattle.print_fields.proofs.put_field.Tie as tie

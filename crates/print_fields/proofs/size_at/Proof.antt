@@ -1,7 +1,7 @@
 -- `fields::size_at` meets its contract. Assumes nothing.
 use native.Mathlib.Omega.{arith}
 use borrow.Author.Tests.{lt-ltb, le-ltb}
-use Rattle.print_fields.specs.Forms.{sizeAt}
+use Rattle.print_fields.specs.Mirror.{sizeAt}
 use borrow.Author.Needs.{needs}
 use Rattle.print_fields.proofs.size_at.Statement.{statement}
 use Rattle.print_fields.proofs.size_at.Tie as tie

@@ -1,7 +1,7 @@
 -- `fields::value_size` meets its contract. Assumes nothing.
 use native.Mathlib.Omega.{arith}
 use borrow.Author.Tests.{lt-ltb, le-ltb}
-use Rattle.print_fields.specs.Forms.{valueSize}
+use Rattle.print_fields.specs.Mirror.{valueSize}
 use borrow.Author.Needs.{needs}
 use Rattle.print_fields.proofs.value_size.Statement.{statement}
 use Rattle.print_fields.proofs.value_size.Tie as tie

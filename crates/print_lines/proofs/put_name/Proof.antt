@@ -1,7 +1,7 @@
 -- `printing::put_name` meets its contract. Assumes nothing.
-use Rattle.print_writing.specs.Written.{wrote-none}
+use Rattle.print_writing.specs.Laws.{wrote-none}
 use borrow.Author.Tests.{lt-ltb, le-ltb}
-use Rattle.print_lines.specs.Forms.{nameForm}
+use Rattle.print_lines.specs.Mirror.{nameForm}
 use borrow.Author.Needs.{needs}
 use Rattle.print_lines.proofs.put_name.Statement.{statement}
 use Rattle.print_lines.proofs.put_name.Tie as tie

@@ -1,6 +1,6 @@
 -- `printing::put_place` meets its contract. Assumes nothing.
-use Rattle.print_writing.specs.Written.{join}
-use Rattle.print_lines.specs.Forms.{placeForm}
+use Rattle.print_writing.specs.Laws.{join}
+use Rattle.print_lines.specs.Mirror.{placeForm}
 use borrow.Author.Needs.{needs}
 use Rattle.print_lines.proofs.put_place.Statement.{statement}
 use Rattle.print_lines.proofs.put_place.Tie as tie

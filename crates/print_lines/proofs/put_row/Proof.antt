@@ -1,7 +1,7 @@
 -- `printing::put_row` meets its contract. Assumes nothing.
 use Rattle.gil.specs.Printed.{lineEnd}
-use Rattle.print_writing.specs.Written.{join}
-use Rattle.print_lines.specs.Forms.{rowForm}
+use Rattle.print_writing.specs.Laws.{join}
+use Rattle.print_lines.specs.Mirror.{rowForm}
 use borrow.Author.Needs.{needs}
 use Rattle.print_lines.proofs.put_row.Statement.{statement}
 use Rattle.print_lines.proofs.put_row.Tie as tie

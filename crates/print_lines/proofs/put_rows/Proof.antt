@@ -4,9 +4,10 @@ use native.Mathlib.Omega.{arith}
 use mathlib.Core.Path.{_≡_, refl, _∙_}
 use lib.ListN.{length}
 use borrow.Author.Needs.{needs}
-use Rattle.print_writing.specs.Written.{Wrote}
-use Rattle.print_lines.specs.Forms.{runs, rowForm}
-use Rattle.print_lines.specs.Steps.{rows-more, runs-none}
+use Rattle.print_writing.specs.Mirror.{Wrote}
+use Rattle.print_parts.specs.Mirror.{runs}
+use Rattle.print_parts.specs.Laws.{rows-more, runs-none}
+use Rattle.print_lines.specs.Mirror.{rowForm}
 use Rattle.print_lines.proofs.put_rows.Statement.{statement}
 use Rattle.print_lines.proofs.put_rows.Tie as tie
 

@@ -1,6 +1,6 @@
 -- `printing::put_start` meets its contract. Assumes nothing.
-use Rattle.print_writing.specs.Written.{join}
-use Rattle.print_lines.specs.Forms.{startForm}
+use Rattle.print_writing.specs.Laws.{join}
+use Rattle.print_lines.specs.Mirror.{startForm}
 use borrow.Author.Needs.{needs}
 use Rattle.print_lines.proofs.put_start.Statement.{statement}
 use Rattle.print_lines.proofs.put_start.Tie as tie

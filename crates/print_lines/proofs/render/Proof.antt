@@ -2,7 +2,6 @@
 use Rattle.gil.specs.Text.{bytes}
 use Rattle.gil.specs.Printed.{lineEnd, heading}
 use Rattle.print_lines.specs.Steps.{table-by}
-use Rattle.print_lines.specs.Room.{renders}
 use borrow.Author.Needs.{needs}
 use Rattle.print_lines.proofs.render.Statement.{statement}
 use Rattle.print_lines.proofs.render.Tie as tie
@@ -42,8 +41,7 @@ same-length c = search needs
 -- src/lib.rt:474:1
 returns : tie.Need-returns
 unfolding heading lineEnd bytes
-returns c = let x = table-by _ _ _ _ (c .before .before .before .before .before .before .before .before .before .before .before .before .before .word-at .ensures) (c .before .before .before .before .before .before .before .before .before .before .before .before .measure .ensures) (c .before .before .before .before .before .before .before .before .before .before .before .word-at2 .ensures) (c .before .before .before .before .before .before .before .before .before .before .at-most .ensures .0) (c .before .before .before .before .before .before .before .put-all .ensures) (c .before .before .put-rows .ensures) in
-    (x, renders _ _ _ _ x)
+returns c = table-by _ _ _ _ (c .before .before .before .before .before .before .before .before .before .before .before .before .before .word-at .ensures) (c .before .before .before .before .before .before .before .before .before .before .before .before .measure .ensures) (c .before .before .before .before .before .before .before .before .before .before .before .word-at2 .ensures) (c .before .before .before .before .before .before .before .before .before .before .at-most .ensures .0) (c .before .before .before .before .before .before .before .put-all .ensures) (c .before .before .put-rows .ensures)
 
 pub render-spec : {M : Type 1} → statement M
 render-spec =

@@ -1,7 +1,7 @@
 -- `printing::render_refusal` meets its contract. Assumes nothing.
 use Rattle.gil.specs.Text.{bytes}
 use Rattle.gil.specs.Printed.{lineEnd, refusalLine}
-use Rattle.print_writing.specs.Written.{join, front}
+use Rattle.print_writing.specs.Laws.{join}
 use borrow.Author.Needs.{needs}
 use Rattle.print_lines.proofs.render_refusal.Statement.{statement}
 use Rattle.print_lines.proofs.render_refusal.Tie as tie
@@ -33,7 +33,7 @@ same-length c = search needs
 -- src/lib.rt:488:1
 returns : tie.Need-returns
 unfolding refusalLine lineEnd bytes
-returns c = front (join (join (c .before .before .before .before .before .before .before .before .before .before .before .put-all .ensures) (c .before .before .before .before .before .before .before .put-decimal .ensures)) (c .before .before .put-all2 .ensures))
+returns c = join (join (c .before .before .before .before .before .before .before .before .before .before .before .put-all .ensures) (c .before .before .before .before .before .before .before .put-decimal .ensures)) (c .before .before .put-all2 .ensures)
 
 pub render-refusal-spec : {M : Type 1} → statement M
 render-refusal-spec =

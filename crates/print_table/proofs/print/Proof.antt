@@ -1,9 +1,18 @@
 -- `table::print` meets its contract. Assumes nothing.
+use Prim.Native.Nat.{ℕ, _≤_}
+use native.Mathlib.Omega.{arith}
+use mathlib.Core.Path.{_≡_}
+use lib.ListN.{length, replicate, length-replicate}
 use Rattle.io.proofs.Counting.{front}
+use Rattle.print_laws.specs.Laws.Room.{printedLength}
 use Rattle.print_text.specs.Promise.{prints-room}
 use borrow.Author.Needs.{needs}
 use Rattle.print_table.proofs.print.Statement.{statement}
 use Rattle.print_table.proofs.print.Tie as tie
+
+-- the memory that is lent
+room : printedLength ≤ length {A = ℕ} (replicate printedLength 0)
+room = let e : length {A = ℕ} (replicate printedLength 0) ≡ printedLength = length-replicate {A = ℕ} printedLength 0 in omega arith
 
 -- src/main.rt:45:42
 slice-aggregate-print-table : tie.Need-slice-aggregate-print-table
@@ -15,11 +24,11 @@ print-table-requires c κs = search needs
 
 -- src/main.rt:46:38
 array-share-prefix-out : tie.Need-array-share-prefix-out
-array-share-prefix-out c = prints-room (c .before .print-table .ensures)
+array-share-prefix-out c = prints-room room (c .before .print-table .ensures)
 
 -- src/main.rt:46:38
 slice-aggregate-write-all : tie.Need-slice-aggregate-write-all
-slice-aggregate-write-all c = front _ _ (prints-room (c .before .before .print-table .ensures))
+slice-aggregate-write-all c = front _ _ (prints-room room (c .before .before .print-table .ensures))
 
 -- src/main.rt:46:9
 write-all-requires : tie.Need-write-all-requires

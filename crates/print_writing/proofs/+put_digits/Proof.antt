@@ -1,7 +1,7 @@
 -- `writing::put_digits` meets its contract. Assumes nothing.
 use native.Mathlib.Omega.{arith}
 use mathlib.Core.Path.{sym, _∙_}
-use Rattle.print_writing.specs.Written.{join, wrote-as}
+use Rattle.print_writing.specs.Laws.{join, wrote-as}
 use Rattle.print_writing.specs.Steps.{digits-none, digits-few, digits-more}
 use borrow.Author.Needs.{needs}
 use Prim.Native.Nat.{ℕ, _<_}

@@ -3,7 +3,8 @@ use Prim.Native.Nat.{_≤_, _-_}
 use native.Mathlib.Omega.{arith}
 use mathlib.Core.Path.{_≡_, refl, _∙_}
 use lib.ListN.{length, take}
-use Rattle.print_writing.specs.Written.{Wrote, wrote-none}
+use Rattle.print_writing.specs.Mirror.{Wrote}
+use Rattle.print_writing.specs.Laws.{wrote-none}
 use Rattle.print_writing.specs.Steps.{all-more, all-end}
 use borrow.Author.Needs.{needs}
 use Rattle.print_writing.proofs.put_all.Statement.{statement}

@@ -1,6 +1,6 @@
 -- `writing::put_part` meets its contract. Assumes nothing.
 use mathlib.Core.Path.{sym}
-use Rattle.print_writing.specs.Written.{wrote-as, wrote-none}
+use Rattle.print_writing.specs.Laws.{wrote-as, wrote-none}
 use Rattle.print_writing.specs.Steps.{part-past, part-short, part-whole}
 use borrow.Author.Needs.{needs}
 use Rattle.print_writing.proofs.put_part.Statement.{statement}

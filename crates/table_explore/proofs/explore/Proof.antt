@@ -2,9 +2,9 @@
 use native.Mathlib.Omega.{arith}
 use mathlib.Core.Path.{_∙_, _≡_}
 use lib.ListN.{length}
-use Rattle.machine_cells.specs.Served.{no-cells}
-use Rattle.table_explore.specs.Walked.{reached}
-use Rattle.table_explore.specs.Turns.{from-begin, ends-refused, ends-well, zeroed}
+use Rattle.machine_cells.specs.Laws.Served.{no-cells}
+use Rattle.table_walk.specs.Mirror.{reached}
+use Rattle.table_explore.specs.Steps.{from-begin, ends-refused, ends-well, zeroed}
 use borrow.Author.Needs.{needs}
 use Rattle.table_explore.proofs.explore.Statement.{statement}
 use Rattle.table_explore.proofs.explore.Tie as tie
@@ -14,7 +14,7 @@ use Rattle.machine_cells.proofs.none.Reads as none-reads
 use Rattle.machine_commands.proofs.start_store.Reads as start-store-reads
 use Rattle.table_rows.proofs.write_heading.Reads as write-heading-reads
 use Rattle.table_explore.proofs.begin.Reads as begin-reads
-use Rattle.table_explore.proofs.walk.Reads as walk-reads
+use Rattle.table_walk.proofs.walk.Reads as walk-reads
 use Rattle.lent_words.proofs.zero.Reads as zero-reads
 
 -- src/lib.rt:190:5

@@ -1,5 +1,5 @@
 -- `locate::condition_holds` meets its contract. Assumes nothing.
-use Rattle.table_locate.specs.Located.{conditionHolds}
+use Rattle.table_locate.specs.Mirror.{conditionHolds}
 use borrow.Author.Needs.{needs}
 use Rattle.table_locate.proofs.condition_holds.Statement.{statement}
 use Rattle.table_locate.proofs.condition_holds.Tie as tie

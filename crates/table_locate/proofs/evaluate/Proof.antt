@@ -4,12 +4,13 @@ use lib.ListN.{set}
 use mathlib.Core.Path.{_≡_, _∙_, ap}
 use native.Mathlib.Omega.{arith}
 use borrow.Author.Needs.{needs}
-use Rattle.table_locate.specs.Located.{valuesTo, values-more, values-start}
+use Rattle.table_locate.specs.Mirror.{valuesTo}
+use Rattle.table_locate.specs.Steps.{values-more, values-start}
 use Rattle.table_locate.proofs.evaluate.Statement.{statement}
 use Rattle.table_locate.proofs.evaluate.Tie as tie
 use Rattle.table_locate.proofs.evaluate.Reads as reads
 use Rattle.table_locate.proofs.evaluate.Lts as lts
-use Rattle.table_locate.proofs.at_most.Reads as at-most-reads
+use Rattle.lent_words.proofs.at_most.Reads as at-most-reads
 use Rattle.table_locate.proofs.term_value.Reads as term-value-reads
 
 abbrev Inv-loop : tie.InvT-loop

@@ -3,12 +3,13 @@ use Prim.Native.Nat.{_≤_, _-_}
 use mathlib.Core.Path.{_≡_, sym, _∙_}
 use native.Mathlib.Omega.{arith}
 use borrow.Author.Needs.{needs}
-use Rattle.table_locate.specs.Located.{firstRow, rows-start, rows-more, rows-found, rows-end}
+use Rattle.table_locate.specs.Mirror.{firstRow}
+use Rattle.table_locate.specs.Steps.{rows-start, rows-more, rows-found, rows-end}
 use Rattle.table_locate.proofs.first_row.Statement.{statement}
 use Rattle.table_locate.proofs.first_row.Tie as tie
 use Rattle.table_locate.proofs.first_row.Reads as reads
 use Rattle.table_locate.proofs.first_row.Lts as lts
-use Rattle.table_locate.proofs.at_most.Reads as at-most-reads
+use Rattle.lent_words.proofs.at_most.Reads as at-most-reads
 use Rattle.table_locate.proofs.row_holds.Reads as row-holds-reads
 
 abbrev Inv-loop : tie.InvT-loop

@@ -1,5 +1,5 @@
 -- `locate::locate` meets its contract. Assumes nothing.
-use Rattle.table_locate.specs.Located.{locate-by}
+use Rattle.table_locate.specs.Steps.{locate-by}
 use borrow.Author.Needs.{needs}
 use Rattle.table_locate.proofs.locate.Statement.{statement}
 use Rattle.table_locate.proofs.locate.Tie as tie

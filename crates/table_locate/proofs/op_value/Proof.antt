@@ -1,6 +1,6 @@
 -- `locate::op_value` meets its contract. Assumes nothing.
 use borrow.Author.Tests.{lt-ltb, le-ltb, eq-eqb, ne-eqb}
-use Rattle.table_locate.specs.Located.{opValue}
+use Rattle.table_locate.specs.Mirror.{opValue}
 use borrow.Author.Needs.{needs}
 use Rattle.table_locate.proofs.op_value.Statement.{statement}
 use Rattle.table_locate.proofs.op_value.Tie as tie

@@ -1,6 +1,6 @@
 -- `locate::operand` meets its contract. Assumes nothing.
 use borrow.Author.Tests.{lt-ltb, le-ltb}
-use Rattle.table_locate.specs.Located.{operandWord}
+use Rattle.table_locate.specs.Mirror.{operandWord}
 use borrow.Author.Needs.{needs}
 use Rattle.table_locate.proofs.operand.Statement.{statement}
 use Rattle.table_locate.proofs.operand.Tie as tie

@@ -4,12 +4,13 @@ use mathlib.Core.Path.{_≡_, sym, _∙_}
 use native.Mathlib.Omega.{arith}
 use borrow.Author.Needs.{needs}
 use borrow.Author.Tests.{not-true, not-false}
-use Rattle.table_locate.specs.Located.{conditionsHold, conditions-start, row-count, conditions-more, conditions-stop, conditions-end}
+use Rattle.table_locate.specs.Mirror.{conditionsHold}
+use Rattle.table_locate.specs.Steps.{conditions-start, row-count, conditions-more, conditions-stop, conditions-end}
 use Rattle.table_locate.proofs.row_holds.Statement.{statement}
 use Rattle.table_locate.proofs.row_holds.Tie as tie
 use Rattle.table_locate.proofs.row_holds.Reads as reads
 use Rattle.table_locate.proofs.row_holds.Lts as lts
-use Rattle.table_locate.proofs.at_most.Reads as at-most-reads
+use Rattle.lent_words.proofs.at_most.Reads as at-most-reads
 use Rattle.table_locate.proofs.condition_holds.Reads as condition-holds-reads
 use Rattle.lent_words.proofs.word_at.Reads as word-at-reads
 

@@ -1,6 +1,6 @@
 -- `locate::value_word` meets its contract. Assumes nothing.
 use borrow.Author.Tests.{lt-ltb, le-ltb}
-use Rattle.table_locate.specs.Located.{valueWord}
+use Rattle.table_locate.specs.Mirror.{valueWord}
 use borrow.Author.Needs.{needs}
 use Rattle.table_locate.proofs.value_word.Statement.{statement}
 use Rattle.table_locate.proofs.value_word.Tie as tie

@@ -29,7 +29,7 @@ use denote.Triple.Walked.{needs, Walks, walked, goes-ref, goes-slice, goes-dropp
 use denote.Exit.{yes}
 use Rattle.machine_commands.proofs.Control as Ctl
 use Rattle.machine_commands.proofs.Control.Laws as Ctl′
-use Rattle.machine_cells.specs.Served.{Tidy}
+use Rattle.machine_cells.specs.Laws.Served.{Tidy}
 use Rattle.machine_cells.proofs.Cell as C
 use Rattle.machine_cells.proofs.Cell.Laws as C′
 use Rattle.machine_cells.proofs.Lent.{cell-vals}
@@ -41,12 +41,12 @@ use Rattle.machine_cells.proofs.insert.Symbol as insert-def
 use Rattle.machine_cells.proofs.insert.Met as insert-thm
 use Rattle.machine_cells.proofs.remove.Symbol as remove-def
 use Rattle.machine_cells.proofs.remove.Met as remove-thm
-use Rattle.table_path.proofs.begun.Symbol as begun-def
-use Rattle.table_path.proofs.begun.Met as begun-thm
-use Rattle.table_path.proofs.advance.Symbol as advance-def
-use Rattle.table_path.proofs.advance.Met as advance-thm
-use Rattle.table_path.proofs.stop_of.Symbol as stop-def
-use Rattle.table_path.proofs.stop_of.Met as stop-thm
+use Rattle.table_advance.proofs.begun.Symbol as begun-def
+use Rattle.table_advance.proofs.begun.Met as begun-thm
+use Rattle.table_advance.proofs.advance.Symbol as advance-def
+use Rattle.table_advance.proofs.advance.Met as advance-thm
+use Rattle.table_advance.proofs.stop_of.Symbol as stop-def
+use Rattle.table_advance.proofs.stop_of.Met as stop-thm
 use Rattle.table_path.proofs.follow.Key.{name as #table-path·follow}
 use Rattle.table_path.proofs.follow as follow′
 use Rattle.table_path.proofs.follow.Statement as stated
@@ -133,13 +133,13 @@ follow-meets 𝓤 H A W mem″ run 𝓣 known =
 module _ {M : Type 1} (𝓤 : URA M) (H : Heap 𝓤) (𝓜 : Model 𝓤 H) (𝓖 : GhostRules 𝓤 H) (𝓡 : Running 𝓤 H 𝓜) where
   callees : Callees 𝓤 H (𝓖 .A) (𝓜 .mem) (𝓡 .run) (tables 𝓤 H 𝓜 𝓡 code.env .C)
   callees = record {
-    begins = cited 𝓤 H (Begun 𝓤 H (𝓖 .A) (𝓜 .mem) (𝓡 .run)) 𝓜 𝓡 code.env begun-def.name begun-def.routine code.calls-table-path·begun (begun-thm.met 𝓤 H 𝓜 𝓖 𝓡);
+    begins = cited 𝓤 H (Begun 𝓤 H (𝓖 .A) (𝓜 .mem) (𝓡 .run)) 𝓜 𝓡 code.env begun-def.name begun-def.routine code.calls-table-advance·begun (begun-thm.met 𝓤 H 𝓜 𝓖 𝓡);
     searches = cited 𝓤 H (Search 𝓤 H (𝓖 .A) (𝓜 .mem) (𝓡 .run)) 𝓜 𝓡 code.env search-def.name search-def.routine code.calls-machine-cells·search (search-thm.met 𝓤 H 𝓜 𝓖 𝓡);
     decides = cited 𝓤 H (Decide 𝓤 H (𝓖 .A) (𝓜 .mem) (𝓡 .run)) 𝓜 𝓡 code.env decide-def.name decide-def.routine code.calls-machine-cells·decide (decide-thm.met 𝓤 H 𝓜 𝓖 𝓡);
     inserts = cited 𝓤 H (Insert 𝓤 H (𝓖 .A) (𝓜 .mem) (𝓡 .run)) 𝓜 𝓡 code.env insert-def.name insert-def.routine code.calls-machine-cells·insert (insert-thm.met 𝓤 H 𝓜 𝓖 𝓡);
     removes = cited 𝓤 H (Remove 𝓤 H (𝓖 .A) (𝓜 .mem) (𝓡 .run)) 𝓜 𝓡 code.env remove-def.name remove-def.routine code.calls-machine-cells·remove (remove-thm.met 𝓤 H 𝓜 𝓖 𝓡);
-    advances = cited 𝓤 H (Advance 𝓤 H (𝓖 .A) (𝓜 .mem) (𝓡 .run)) 𝓜 𝓡 code.env advance-def.name advance-def.routine code.calls-table-path·advance (advance-thm.met 𝓤 H 𝓜 𝓖 𝓡);
-    stops-of = cited 𝓤 H (StopOf 𝓤 H (𝓖 .A) (𝓜 .mem) (𝓡 .run)) 𝓜 𝓡 code.env stop-def.name stop-def.routine code.calls-table-path·stop-of (stop-thm.met 𝓤 H 𝓜 𝓖 𝓡);
+    advances = cited 𝓤 H (Advance 𝓤 H (𝓖 .A) (𝓜 .mem) (𝓡 .run)) 𝓜 𝓡 code.env advance-def.name advance-def.routine code.calls-table-advance·advance (advance-thm.met 𝓤 H 𝓜 𝓖 𝓡);
+    stops-of = cited 𝓤 H (StopOf 𝓤 H (𝓖 .A) (𝓜 .mem) (𝓡 .run)) 𝓜 𝓡 code.env stop-def.name stop-def.routine code.calls-table-advance·stop-of (stop-thm.met 𝓤 H 𝓜 𝓖 𝓡);
   }
 
 pub follow-spec : {M : Type 1} → stated.statement M

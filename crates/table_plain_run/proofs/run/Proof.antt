@@ -1,7 +1,7 @@
 -- `run::run` meets its contract. Assumes nothing.
 use lib.ListN.{drop, length-append, length-drop}
-use Rattle.machine_cells.specs.Served.{no-cells}
-use Rattle.table_plain_run.specs.Ran.{answers}
+use Rattle.machine_cells.specs.Laws.Served.{no-cells}
+use Rattle.table_plain_run.specs.Steps.{answers}
 use native.Mathlib.Omega.{arith}
 use mathlib.Core.Path.{_∙_, _≡_, sym, refl}
 use lib.Seq.{length-take-le}
@@ -15,7 +15,7 @@ use Rattle.machine_cells.proofs.none.Reads as none-reads
 use Rattle.machine_commands.proofs.start.Reads as start-reads
 use Rattle.machine_commands.proofs.start_store.Reads as start-store-reads
 use Rattle.table_path.proofs.follow.Reads as follow-reads
-use Rattle.table_path.proofs.head.Reads as head-reads
+use Rattle.table_head.proofs.head.Reads as head-reads
 use Rattle.table_rows.proofs.write_row.Reads as write-row-reads
 use Rattle.lent_words.proofs.zero.Reads as zero-reads
 

@@ -1,8 +1,8 @@
 -- `rows::finish_row` meets its contract. Assumes nothing.
 use mathlib.Core.List.{List}
 use Prim.Native.Nat.{ℕ, _+_, _*_}
-use Rattle.table_rows.specs.Stored.{withRow, withRowAt}
-use Rattle.table_rows.specs.Turns.{part-back}
+use Rattle.table_rows.specs.Mirror.{withRow, withRowAt}
+use Rattle.table_rows.specs.Steps.{part-back}
 use borrow.Author.Tests.{lt-ltb, le-ltb, lt-leb, le-leb}
 use borrow.Author.Needs.{needs}
 use Rattle.table_rows.proofs.finish_row.Statement.{statement}

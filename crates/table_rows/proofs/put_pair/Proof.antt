@@ -2,8 +2,7 @@
 use mathlib.Core.Path.{_∙_, ap}
 use mathlib.Core.List.{List}
 use Prim.Native.Nat.{ℕ, _+_}
-use Rattle.lent_words.specs.Words.{putWord}
-use Rattle.table_rows.specs.Stored.{putWords}
+use Rattle.lent_words.specs.Mirror.{putWord, putWords}
 use borrow.Author.Needs.{needs}
 use Rattle.table_rows.proofs.put_pair.Statement.{statement}
 use Rattle.table_rows.proofs.put_pair.Tie as tie

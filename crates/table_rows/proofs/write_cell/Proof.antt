@@ -1,6 +1,6 @@
 -- `rows::write_cell` meets its contract. Assumes nothing.
-use Rattle.table_rows.specs.Stored.{cellOf, valueOf}
-use Rattle.table_rows.specs.Turns.{value-put, cell-put}
+use Rattle.table_rows.specs.Mirror.{cellOf, valueOf}
+use Rattle.table_rows.specs.Steps.{value-put, cell-put}
 use native.Mathlib.Omega.{arith}
 use Prim.Native.Nat.{_+_, _*_}
 use mathlib.Core.Path.{_≡_}

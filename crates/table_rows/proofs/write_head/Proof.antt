@@ -1,6 +1,7 @@
 -- `rows::write_head` meets its contract. Assumes nothing.
-use Rattle.table_rows.specs.Stored.{headOf}
-use Rattle.table_rows.specs.Turns.{five-pairs}
+use Rattle.table_rows.specs.Mirror.{headOf}
+use Rattle.table_rows.specs.Steps.{then-put}
+use mathlib.Core.Path.{refl}
 use borrow.Author.Needs.{needs}
 use Rattle.table_rows.proofs.write_head.Statement.{statement}
 use Rattle.table_rows.proofs.write_head.Tie as tie
@@ -35,7 +36,15 @@ same-length c = search needs
 -- src/lib.rt:60:1
 returns : tie.Need-returns
 unfolding headOf
-returns c = five-pairs _ _ _ _ _ _ _ _ _ _ _ _ _ _ _ _ (c .before .before .before .before .before .before .before .before .before .before .before .before .before .before .before .before .before .before .put-pair .ensures) (c .before .before .before .before .before .before .before .before .before .before .before .before .before .before .put-pair2 .ensures) (c .before .before .before .before .before .before .before .before .before .before .put-pair3 .ensures) (c .before .before .before .before .before .before .put-pair4 .ensures) (c .before .before .put-pair5 .ensures)
+returns c = then-put _ _ _ _ _ 0 32 refl
+    (then-put _ _ _ _ _ 0 24 refl
+    (then-put _ _ _ _ _ 0 16 refl
+    (then-put _ _ _ _ _ 0 8 refl
+    (c .before .before .before .before .before .before .before .before .before .before .before .before .before .before .before .before .before .before .put-pair .ensures)
+    (c .before .before .before .before .before .before .before .before .before .before .before .before .before .before .put-pair2 .ensures))
+    (c .before .before .before .before .before .before .before .before .before .before .put-pair3 .ensures))
+    (c .before .before .before .before .before .before .put-pair4 .ensures))
+    (c .before .before .put-pair5 .ensures)
 
 pub write-head-spec : {M : Type 1} → statement M
 write-head-spec =

@@ -1,13 +1,8 @@
--- `names::find` meets its contract. Assumes nothing.
-use Rattle.text_names.specs.Tables.{searched}
+-- `find` meets its contract. Assumes nothing.
+use Rattle.text_names.specs.Steps.Tables.{searched}
 use borrow.Author.Needs.{needs}
 use Rattle.text_names.proofs.find.Statement.{statement}
 use Rattle.text_names.proofs.find.Tie as tie
-use Rattle.text_names.proofs.find.Reads as reads
-use Rattle.text_names.proofs.find.Lts as lts
-use Rattle.text_names.proofs.end_of.Reads as end-of-reads
-use Rattle.text_names.proofs.search.Reads as search-reads
-use Rattle.text_names.proofs.start_of.Reads as start-of-reads
 
 -- src/lib.rt:74:9
 start-of-requires : tie.Need-start-of-requires

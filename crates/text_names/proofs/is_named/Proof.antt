@@ -1,16 +1,11 @@
--- `names::is_named` meets its contract. Assumes nothing.
+-- `is_named` meets its contract. Assumes nothing.
 use mathlib.Core.Path.{ap, _∙_}
 use native.Mathlib.Omega.{arith}
 use Rattle.gil.specs.Text
-use Rattle.text_names.specs.Tables.{part-is}
+use Rattle.text_names.specs.Steps.Tables.{part-is}
 use borrow.Author.Needs.{needs}
 use Rattle.text_names.proofs.is_named.Statement.{statement}
 use Rattle.text_names.proofs.is_named.Tie as tie
-use Rattle.text_names.proofs.is_named.Reads as reads
-use Rattle.text_names.proofs.is_named.Lts as lts
-use Rattle.text_names.proofs.end_of.Reads as end-of-reads
-use Rattle.text_names.proofs.start_of.Reads as start-of-reads
-use Rattle.text_tokens.proofs.words.same.Reads as same-reads
 
 -- src/lib.rt:43:9
 start-of-requires : tie.Need-start-of-requires

@@ -1,21 +1,19 @@
--- `names::search` meets its contract. Assumes nothing.
+-- `search` meets its contract. Assumes nothing.
 use Prim.Native.Nat.{_≤_, _+_, _-_}
-use mathlib.Core.Path.{_≡_, refl, sym, _∙_}
+use mathlib.Core.Path.{_≡_, sym, _∙_}
 use mathlib.Core.List.{map}
 use borrow.Author.Needs.{needs}
 use native.Mathlib.Omega.{arith}
 use lib.ListN.{length, drop, take}
 use Rattle.gil.specs.Names.{placeOf}
-use Rattle.text_tokens.specs.Seen.{nameAt}
-use Rattle.text_names.specs.Tables.{rest-all, rest-here, rest-on, rest-none}
+use Rattle.text_tokens.specs.Mirror.Seen.{nameAt}
+use Rattle.text_names.specs.Steps.Tables.{rest-all, rest-here, rest-on, rest-none}
+use Rattle.text_names.specs.Mirror.Sizes.{namesWords}
 use Rattle.text_names.proofs.search.Statement.{statement}
 use Rattle.text_names.proofs.search.Tie as tie
-use Rattle.text_names.proofs.search.Reads as reads
-use Rattle.text_names.proofs.search.Lts as lts
-use Rattle.text_names.proofs.is_named.Reads as is-named-reads
 
 abbrev Inv-loop : tie.InvT-loop
-Inv-loop text word names n i₀ i = (i ≤ n) × (length names ≡ 33 → placeOf word (map (nameAt text) (take n names)) ≡ i + placeOf word (map (nameAt text) (drop i (take n names))))
+Inv-loop text word names n i₀ i = (i ≤ n) × (length names ≡ namesWords → placeOf word (map (nameAt text) (take n names)) ≡ i + placeOf word (map (nameAt text) (drop i (take n names))))
 
 abbrev μ-loop : tie.MeasureT-loop
 μ-loop text word names n i₀ i = n - i

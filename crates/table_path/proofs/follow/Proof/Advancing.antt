@@ -38,15 +38,15 @@ use denote.Triple.Clauses.{Lasts, lasts}
 use denote.Triple.Entry.{Vals}
 use denote.Triple.Spec.{tripleOf}
 use Rattle.machine_cells.specs.declared.Deed.{Deed}
-use Rattle.machine_cells.specs.Served.{heldBy}
+use Rattle.machine_cells.specs.Laws.Served.{heldBy}
 use Rattle.machine_cells.proofs.Deed as D
 use Rattle.machine_cells.proofs.Deed.Laws as D′
-use Rattle.table_path.specs.declared.Progress.{Progress}
-use Rattle.table_path.specs.Followed.{oneIn}
-use Rattle.table_path.specs.Progressed.{Ready, Advanced}
-use Rattle.table_path.proofs.Progress as P
-use Rattle.table_path.proofs.Progress.Laws as P′
-use Rattle.table_path.proofs.advance as advance′
+use Rattle.table_advance.specs.declared.Progress.{Progress}
+use Rattle.table_advance.specs.Mirror.Followed.{oneIn}
+use Rattle.table_advance.specs.Mirror.Progressed.{Ready, Advanced}
+use Rattle.table_advance.proofs.Progress as P
+use Rattle.table_advance.proofs.Progress.Laws as P′
+use Rattle.table_advance.proofs.advance as advance′
 use Rattle.table_path.proofs.follow.Proof.Fields.{in-use-fits, given-fits}
 
 -- a slice that is lent again for κ′ under the name γ₁, and comes back: `denote.Lend`'s `lends-again` and `comes-back`, of a slice

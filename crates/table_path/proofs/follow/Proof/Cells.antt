@@ -41,8 +41,8 @@ use Rattle.machine_values.proofs.Location.Laws as L′
 use Rattle.machine_cells.specs.declared.Cell.{Cell}
 use Rattle.machine_cells.specs.declared.Deed.{Deed}
 use Rattle.machine_cells.specs.declared.Found.{Found}
-use Rattle.machine_cells.specs.Held.{FoundAt, Removed, carriedIn, heldIn}
-use Rattle.machine_cells.specs.Order.{Ordered}
+use Rattle.machine_cells.specs.Mirror.{FoundAt, Removed, carriedIn, heldIn}
+use Rattle.machine_cells.specs.Laws.Order.{Ordered}
 use Rattle.machine_cells.proofs.Cell as C
 use Rattle.machine_cells.proofs.Deed as D
 use Rattle.machine_cells.proofs.Deed.Laws as D′
@@ -51,9 +51,9 @@ use Rattle.machine_cells.proofs.Lent.{cell-vals, cell-makes, location-makes, ar
 use Rattle.machine_cells.proofs.search as search′
 use Rattle.machine_cells.proofs.insert as insert′
 use Rattle.machine_cells.proofs.remove as remove′
-use Rattle.table_path.specs.declared.Progress.{Progress}
-use Rattle.table_path.proofs.Progress as P
-use Rattle.table_path.proofs.Progress.Laws as P′
+use Rattle.table_advance.specs.declared.Progress.{Progress}
+use Rattle.table_advance.proofs.Progress as P
+use Rattle.table_advance.proofs.Progress.Laws as P′
 use Rattle.table_path.proofs.follow.Proof.Fields.{says-both, held-fits, location-is, property-fits, at-fits, last-fits, cell-is, among-fits}
 
 module _ {M : Type 1} (𝓤 : URA M) (H : Heap 𝓤) (A : Atoms 𝓤) (mem″ : Memory → SProp 𝓤) (run : Routine → Fun 𝓤) where

@@ -26,9 +26,9 @@ use Rattle.machine_cells.proofs.Deed.Laws as D′
 use Rattle.machine_cells.proofs.Found as F
 use Rattle.machine_cells.proofs.Found.Laws as F′
 use Rattle.machine_cells.proofs.Lent.{cell-vals, location-vals}
-use Rattle.table_path.specs.declared.Progress.{Progress}
-use Rattle.table_path.proofs.Progress as P
-use Rattle.table_path.proofs.Progress.Laws as P′
+use Rattle.table_advance.specs.declared.Progress.{Progress}
+use Rattle.table_advance.proofs.Progress as P
+use Rattle.table_advance.proofs.Progress.Laws as P′
 
 -- a goal P ∗ (⌜φ⌝ ∗ ⌜ψ⌝), as two clauses make it: both are shown, and P is left
 pub says-both : {M : Type 1} {𝓤 : URA M} {H : Heap 𝓤} {A : Atoms 𝓤} {K : Type 0} {W : Given 𝓤 H A} {Γ : List (Item 𝓤)} → K → {φ ψ : Type 0} {P : SProp 𝓤} → φ → ψ

@@ -31,7 +31,7 @@ use Rattle.machine_cells.specs.declared.Ask.{Ask}
 use Rattle.machine_cells.specs.declared.Cell.{Cell}
 use Rattle.machine_cells.specs.declared.Deed.{Deed}
 use Rattle.machine_cells.specs.declared.Found.{Found}
-use Rattle.machine_cells.specs.Held.{deedIn}
+use Rattle.machine_cells.specs.Mirror.{deedIn}
 use Rattle.machine_cells.proofs.Ask as As
 use Rattle.machine_cells.proofs.Ask.Laws as As′
 use Rattle.machine_cells.proofs.Cell as C
@@ -40,14 +40,14 @@ use Rattle.machine_cells.proofs.Found as F
 use Rattle.machine_cells.proofs.Found.Laws as F′
 use Rattle.machine_cells.proofs.Lent.{cell-vals, cell-makes, Cells}
 use Rattle.machine_cells.proofs.decide as decide′
-use Rattle.table_path.specs.declared.Progress.{Progress}
-use Rattle.table_path.specs.declared.Stop.{Stop}
-use Rattle.table_path.specs.Progressed.{begunIn, stopIn}
-use Rattle.table_path.proofs.Progress as P
-use Rattle.table_path.proofs.Progress.Laws as P′
-use Rattle.table_path.proofs.Stop as S
-use Rattle.table_path.proofs.begun as begun′
-use Rattle.table_path.proofs.stop_of as stop-of′
+use Rattle.table_advance.specs.declared.Progress.{Progress}
+use Rattle.table_advance.specs.declared.Stop.{Stop}
+use Rattle.table_advance.specs.Mirror.Progressed.{begunIn, stopIn}
+use Rattle.table_advance.proofs.Progress as P
+use Rattle.table_advance.proofs.Progress.Laws as P′
+use Rattle.table_advance.proofs.Stop as S
+use Rattle.table_advance.proofs.begun as begun′
+use Rattle.table_advance.proofs.stop_of as stop-of′
 use Rattle.table_path.proofs.follow.Proof.Fields.{held-fits, ask-is}
 
 module _ {M : Type 1} (𝓤 : URA M) (H : Heap 𝓤) (A : Atoms 𝓤) (mem″ : Memory → SProp 𝓤) (run : Routine → Fun 𝓤) where

@@ -48,8 +48,8 @@ use Rattle.machine_commands.proofs.Control.Laws as Ctl′
 use Rattle.machine_cells.specs.declared.Cell.{Cell}
 use Rattle.machine_cells.specs.declared.Deed.{Deed}
 use Rattle.machine_cells.specs.declared.Found.{Found}
-use Rattle.machine_cells.specs.Held.{heldIn, deedIn}
-use Rattle.machine_cells.specs.Served.{Tidy, heldBy, deed-fits, served}
+use Rattle.machine_cells.specs.Mirror.{heldIn, deedIn}
+use Rattle.machine_cells.specs.Laws.Served.{Tidy, heldBy, deed-fits, served}
 use Rattle.machine_cells.proofs.Ask as As
 use Rattle.machine_cells.proofs.Ask.Laws as As′
 use Rattle.machine_cells.proofs.Cell as C
@@ -63,18 +63,18 @@ use Rattle.machine_cells.proofs.search.Symbol.{name as #machine-cells·search}
 use Rattle.machine_cells.proofs.decide.Symbol.{name as #machine-cells·decide}
 use Rattle.machine_cells.proofs.insert.Symbol.{name as #machine-cells·insert}
 use Rattle.machine_cells.proofs.remove.Symbol.{name as #machine-cells·remove}
-use Rattle.table_path.specs.declared.Progress.{Progress}
-use Rattle.table_path.specs.declared.Stop.{Stop}
-use Rattle.table_path.specs.Followed.{Spot, spot, Stopped, stopped, oneIn, followIn}
-use Rattle.table_path.specs.Progressed.{begunIn, stopIn, Stands, Advanced, ahead, stands-begun, stands-done, turn}
-use Rattle.machine_actions.specs.Changed.{Changed}
-use Rattle.table_path.proofs.Progress as P
-use Rattle.table_path.proofs.Progress.Laws as P′
-use Rattle.table_path.proofs.Stop as S
-use Rattle.table_path.proofs.Stop.Laws as S′
-use Rattle.table_path.proofs.begun.Symbol.{name as #table-path·begun}
-use Rattle.table_path.proofs.advance.Symbol.{name as #table-path·advance}
-use Rattle.table_path.proofs.stop_of.Symbol.{name as #table-path·stop-of}
+use Rattle.table_advance.specs.declared.Progress.{Progress}
+use Rattle.table_advance.specs.declared.Stop.{Stop}
+use Rattle.table_advance.specs.Mirror.Followed.{Spot, spot, Stopped, stopped, oneIn, followIn}
+use Rattle.table_advance.specs.Mirror.Progressed.{begunIn, stopIn, Stands, Advanced, ahead, stands-begun, stands-done, turn}
+use Rattle.machine_actions.specs.Laws.Changed.{Changed}
+use Rattle.table_advance.proofs.Progress as P
+use Rattle.table_advance.proofs.Progress.Laws as P′
+use Rattle.table_advance.proofs.Stop as S
+use Rattle.table_advance.proofs.Stop.Laws as S′
+use Rattle.table_advance.proofs.begun.Symbol.{name as #table-advance·begun}
+use Rattle.table_advance.proofs.advance.Symbol.{name as #table-advance·advance}
+use Rattle.table_advance.proofs.stop_of.Symbol.{name as #table-advance·stop-of}
 use Rattle.table_path.proofs.follow as follow′
 use Rattle.table_path.proofs.follow.Code as code
 use Rattle.table_path.proofs.follow.Code.Mir as mir
@@ -190,13 +190,13 @@ count-again = tyRef erased mut half
 
 -- all that the walk knows of the functions that are called
 pub record Callees {M : Type 1} (𝓤 : URA M) (H : Heap 𝓤) (A : Atoms 𝓤) (mem″ : Memory → SProp 𝓤) (run : Routine → Fun 𝓤) (Cs : Calls 𝓤 H) : Type 1 where
-  pub begins : Triple 𝓤 (Cs #table-path·begun) (Begun 𝓤 H A mem″ run)
+  pub begins : Triple 𝓤 (Cs #table-advance·begun) (Begun 𝓤 H A mem″ run)
   pub searches : Triple 𝓤 (Cs #machine-cells·search) (Search 𝓤 H A mem″ run)
   pub decides : Triple 𝓤 (Cs #machine-cells·decide) (Decide 𝓤 H A mem″ run)
   pub inserts : Triple 𝓤 (Cs #machine-cells·insert) (Insert 𝓤 H A mem″ run)
   pub removes : Triple 𝓤 (Cs #machine-cells·remove) (Remove 𝓤 H A mem″ run)
-  pub advances : Triple 𝓤 (Cs #table-path·advance) (Advance 𝓤 H A mem″ run)
-  pub stops-of : Triple 𝓤 (Cs #table-path·stop-of) (StopOf 𝓤 H A mem″ run)
+  pub advances : Triple 𝓤 (Cs #table-advance·advance) (Advance 𝓤 H A mem″ run)
+  pub stops-of : Triple 𝓤 (Cs #table-advance·stop-of) (StopOf 𝓤 H A mem″ run)
 
 module _ {M : Type 1} (𝓤 : URA M) (H : Heap 𝓤) (A : Atoms 𝓤) (W : Given 𝓤 H A) (mem″ : Memory → SProp 𝓤) (run : Routine → Fun 𝓤)
     (κs : Lfts 5) (qs : Shares 5) (code-at inputs : RefT (List ℕ)) (bs os : ℕ) (γs : GName) (bp op : ℕ) (γp : GName) (bc oc : ℕ) (γc : GName)

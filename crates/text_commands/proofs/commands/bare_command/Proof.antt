@@ -1,22 +1,16 @@
--- `reader::commands::bare_command` meets its contract. Assumes nothing.
-use Rattle.text_commands.specs.Commands.{bare-form, bare-done, bare-none, commandBy}
-use Rattle.text_commands.specs.Effects.{does-vanish, returning, failing}
+-- `commands::bare_command` meets its contract. Assumes nothing.
+use Rattle.text_commands.specs.Steps.Commands.{bare-form, bare-done, bare-none, commandBy}
+use Rattle.text_commands.specs.Steps.Effects.{does-vanish}
+use Rattle.text_commands.specs.Mirror.{returning, failing}
+use Rattle.text_tokens.specs.Mirror.Seen.{nameAt}
+use Rattle.text_words.specs.Mirror.Kinds.{failToken, ifgotoToken, nameToken, returnToken, vanishToken}
 use mathlib.Core.Path.{refl}
 use native.Mathlib.Omega.{arith}
 use Rattle.gil.specs.Tree.{return, fail, vanish}
 use Rattle.gil.specs.Reading.{settingOf, jumpOf, endingOf}
-use Rattle.text_tokens.specs.Seen.{nameAt}
 use borrow.Author.Needs.{needs}
 use Rattle.text_commands.proofs.commands.bare_command.Statement.{statement}
 use Rattle.text_commands.proofs.commands.bare_command.Tie as tie
-use Rattle.text_commands.proofs.commands.bare_command.Reads as reads
-use Rattle.text_commands.proofs.commands.bare_command.Lts as lts
-use Rattle.text_commands.proofs.commands.ending.Reads as ending-reads
-use Rattle.text_commands.proofs.commands.jumping.Reads as jumping-reads
-use Rattle.text_commands.proofs.commands.setting.Reads as setting-reads
-use Rattle.text_commands.proofs.forms.stop.Reads as stop-reads
-use Rattle.text_commands.proofs.store.store_command.Reads as store-command-reads
-use Rattle.text_tokens.proofs.lexemes.token.Reads as token-reads
 
 -- src/commands.rt:318:9
 token-requires : tie.Need-token-requires
@@ -49,27 +43,27 @@ stop-requires c κs = search needs
 -- src/commands.rt:305:1
 returns : tie.Need-returns
 unfolding commandBy
-returns c = (bare-form (c .before .before .before .before .before .before .token .ensures) 256 (settingOf (nameAt (c .before .before .before .before .before .before .before .before .args .text .now) (c .before .before .before .before .before .before .token .result .value))) (c .before .before .before .before .before .match .keys1) (λ z. omega arith) refl (c .setting .ensures .0), c .setting .ensures .1)
+returns c = (bare-form (c .before .before .before .before .before .before .token .ensures) nameToken (settingOf (nameAt (c .before .before .before .before .before .before .before .before .args .text .now) (c .before .before .before .before .before .before .token .result .value))) (c .before .before .before .before .before .match .keys1) (λ z. omega arith) refl (c .setting .ensures .0), c .setting .ensures .1)
 
 -- src/commands.rt:305:1
 returns-2 : tie.Need-returns-2
 unfolding commandBy
-returns-2 c = (bare-form (c .before .before .before .before .token .ensures) 272 jumpOf (c .before .before .before .match .keys2) (λ z. omega arith) refl (c .jumping .ensures .0 (c .before .before .before .before .before .before .args .props .now) (c .before .before .before .before .before .before .args .calls .now)), c .jumping .ensures .1)
+returns-2 c = (bare-form (c .before .before .before .before .token .ensures) ifgotoToken jumpOf (c .before .before .before .match .keys2) (λ z. omega arith) refl (c .jumping .ensures .0 (c .before .before .before .before .before .before .args .props .now) (c .before .before .before .before .before .before .args .calls .now)), c .jumping .ensures .1)
 
 -- src/commands.rt:305:1
 returns-3 : tie.Need-returns-3
 unfolding commandBy
-returns-3 c = (bare-form (c .before .before .before .before .token .ensures) 273 (endingOf return) (c .before .before .before .match .keys3) (λ z. omega arith) refl (c .ending .ensures .0 return (c .before .before .before .before .before .before .args .props .now) (c .before .before .before .before .before .before .args .calls .now) returning), c .ending .ensures .1)
+returns-3 c = (bare-form (c .before .before .before .before .token .ensures) returnToken (endingOf return) (c .before .before .before .match .keys3) (λ z. omega arith) refl (c .ending .ensures .0 return (c .before .before .before .before .before .before .args .props .now) (c .before .before .before .before .before .before .args .calls .now) returning), c .ending .ensures .1)
 
 -- src/commands.rt:305:1
 returns-4 : tie.Need-returns-4
 unfolding commandBy
-returns-4 c = (bare-form (c .before .before .before .before .token .ensures) 274 (endingOf fail) (c .before .before .before .match .keys4) (λ z. omega arith) refl (c .ending2 .ensures .0 fail (c .before .before .before .before .before .before .args .props .now) (c .before .before .before .before .before .before .args .calls .now) failing), c .ending2 .ensures .1)
+returns-4 c = (bare-form (c .before .before .before .before .token .ensures) failToken (endingOf fail) (c .before .before .before .match .keys4) (λ z. omega arith) refl (c .ending2 .ensures .0 fail (c .before .before .before .before .before .before .args .props .now) (c .before .before .before .before .before .before .args .calls .now) failing), c .ending2 .ensures .1)
 
 -- src/commands.rt:305:1
 returns-5 : tie.Need-returns-5
 unfolding commandBy
-returns-5 c = (bare-done (c .before .before .before .token .ensures) 275 vanish (c .before .before .match .keys5) (λ z. omega arith) refl (does-vanish (c .store-command .ensures)), c .before .before .before .before .before .pre .1)
+returns-5 c = (bare-done (c .before .before .before .token .ensures) vanishToken vanish (c .before .before .match .keys5) (λ z. omega arith) refl (does-vanish (c .store-command .ensures)), c .before .before .before .before .before .pre .1)
 
 -- src/commands.rt:305:1
 returns-6 : tie.Need-returns-6

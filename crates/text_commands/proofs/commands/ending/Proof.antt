@@ -1,14 +1,10 @@
--- `reader::commands::ending` meets its contract. Assumes nothing.
-use Rattle.text_commands.specs.Commands.{ending-goes}
-use Rattle.text_commands.specs.Effects.{does-ending}
+-- `commands::ending` meets its contract. Assumes nothing.
+use Rattle.text_commands.specs.Steps.Commands.{ending-goes}
+use Rattle.text_commands.specs.Steps.Effects.{does-ending}
 use mathlib.Core.Path.{refl}
 use borrow.Author.Needs.{needs}
 use Rattle.text_commands.proofs.commands.ending.Statement.{statement}
 use Rattle.text_commands.proofs.commands.ending.Tie as tie
-use Rattle.text_commands.proofs.commands.ending.Reads as reads
-use Rattle.text_commands.proofs.commands.ending.Lts as lts
-use Rattle.text_commands.proofs.exprs.expr.Reads as expr-reads
-use Rattle.text_commands.proofs.store.store_command.Reads as store-command-reads
 
 -- src/commands.rt:294:9
 expr-requires : tie.Need-expr-requires

@@ -1,21 +1,15 @@
--- `reader::commands::jumping` meets its contract. Assumes nothing.
-use Rattle.text_commands.specs.Commands.{jump-goes}
-use Rattle.text_commands.specs.Effects.{does-jump, Does}
-use mathlib.Core.Path.{refl, _≡_, sym, _∙_, ap, subst}
-use Prim.Native.Nat.{ℕ, suc, _+_}
+-- `commands::jumping` meets its contract. Assumes nothing.
+use Rattle.text_commands.specs.Steps.Commands.{jump-goes}
+use Rattle.text_commands.specs.Steps.Effects.{does-jump}
+use Rattle.text_commands.specs.Mirror.{Does}
+use mathlib.Core.Path.{refl, _∙_, ap, subst}
+use Prim.Native.Nat.{ℕ, _+_}
 use Rattle.gil.specs.Tree.{ifgoto}
 use mathlib.Core.Bool.{false}
-use native.Mathlib.Omega.{arith}
 use native.Mathlib.Numerals.{add-one}
 use borrow.Author.Needs.{needs}
 use Rattle.text_commands.proofs.commands.jumping.Statement.{statement}
 use Rattle.text_commands.proofs.commands.jumping.Tie as tie
-use Rattle.text_commands.proofs.commands.jumping.Reads as reads
-use Rattle.text_commands.proofs.commands.jumping.Lts as lts
-use Rattle.text_names.proofs.wide.Reads as wide-reads
-use Rattle.text_commands.proofs.exprs.expr.Reads as expr-reads
-use Rattle.text_commands.proofs.forms.number.Reads as number-reads
-use Rattle.text_commands.proofs.store.store_command.Reads as store-command-reads
 
 -- src/commands.rt:270:9
 expr-requires : tie.Need-expr-requires
@@ -43,7 +37,7 @@ add-t15 c = search needs
 
 -- src/commands.rt:259:1
 returns : tie.Need-returns
-returns c = (λ p k. jump-goes (λ e m q i. subst (λ (x : ℕ). Does (c .before .before .before .before .before .before .before .before .args .text .now) (c .before .before .before .before .before .before .before .before .args .vars .now) (c .before .before .before .before .expr .last .1 .1 .1 .0) p p k k (c .before .before .before .before .before .before .before .before .args .code .now) (c .before .store-command .last .0) (c .before .before .before .before .before .before .before .before .args .n) (c .before .before .before .before .before .before .before .before .args .out) (c .before .before .before .before .expr .result .out) (c .wide .result + 1) false (ifgoto e x)) i (does-jump q (c .before .store-command .ensures) refl (ap (λ (x : ℕ). x + 1) (c .wide .ensures) ∙ add-one (c .before .before .before .number .result .value)))) (c .before .before .before .before .expr .ensures .0) (c .before .before .before .number .ensures), c .before .before .before .before .expr .ensures .1)
+returns c = (λ p k. jump-goes (λ e m q i. subst (λ (x : ℕ). Does (c .before .before .before .before .before .before .before .before .args .text .now) (c .before .before .before .before .before .before .before .before .args .vars .now) (c .before .before .before .before .expr .last .1 .1 .1 .0) p p k k (c .before .before .before .before .before .before .before .before .args .code .now) (c .before .store-command .last .0) (c .before .before .before .before .before .before .before .before .args .n) (c .before .before .before .before .before .before .before .before .args .out) (c .before .before .before .before .expr .result .out) (c .wide .result + 1) false (ifgoto e x)) i (does-jump q (c .before .store-command .ensures) refl (ap (λ (x : ℕ). x + 1) (c .wide .ensures .0) ∙ add-one (c .before .before .before .number .result .value)))) (c .before .before .before .before .expr .ensures .0) (c .before .before .before .number .ensures), c .before .before .before .before .expr .ensures .1)
 
 pub jumping-spec : {M : Type 1} → statement M
 jumping-spec =

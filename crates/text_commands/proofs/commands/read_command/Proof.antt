@@ -1,12 +1,8 @@
--- `reader::commands::read_command` meets its contract. Assumes nothing.
-use Rattle.text_commands.specs.Commands.{command-goes}
+-- `commands::read_command` meets its contract. Assumes nothing.
+use Rattle.text_commands.specs.Steps.Commands.{command-goes}
 use borrow.Author.Needs.{needs}
 use Rattle.text_commands.proofs.commands.read_command.Statement.{statement}
 use Rattle.text_commands.proofs.commands.read_command.Tie as tie
-use Rattle.text_commands.proofs.commands.read_command.Reads as reads
-use Rattle.text_commands.proofs.commands.read_command.Lts as lts
-use Rattle.text_commands.proofs.commands.bare_command.Reads as bare-command-reads
-use Rattle.text_commands.proofs.forms.mark.Reads as mark-reads
 
 -- src/commands.rt:365:9
 bare-command-requires : tie.Need-bare-command-requires

@@ -1,17 +1,10 @@
--- `reader::commands::setting` meets its contract. Assumes nothing.
-use Rattle.text_commands.specs.Commands.{setting-goes}
-use Rattle.text_commands.specs.Effects.{does-setting}
-use mathlib.Core.Path.{refl}
-use Rattle.text_tokens.specs.Seen.{nameAt}
+-- `commands::setting` meets its contract. Assumes nothing.
+use Rattle.text_commands.specs.Steps.Commands.{setting-goes}
+use Rattle.text_commands.specs.Steps.Effects.{does-setting}
+use Rattle.text_tokens.specs.Mirror.Seen.{nameAt}
 use borrow.Author.Needs.{needs}
 use Rattle.text_commands.proofs.commands.setting.Statement.{statement}
 use Rattle.text_commands.proofs.commands.setting.Tie as tie
-use Rattle.text_commands.proofs.commands.setting.Reads as reads
-use Rattle.text_commands.proofs.commands.setting.Lts as lts
-use Rattle.text_names.proofs.intern.Reads as intern-reads
-use Rattle.text_commands.proofs.commands.value.Reads as value-reads
-use Rattle.text_commands.proofs.forms.becomes.Reads as becomes-reads
-use Rattle.text_commands.proofs.store.store_command.Reads as store-command-reads
 
 -- src/commands.rt:248:9
 becomes-requires : tie.Need-becomes-requires

@@ -1,18 +1,14 @@
--- `programs::link::callee` meets its contract. Assumes nothing.
+-- `link::callee` meets its contract. Assumes nothing.
 use mathlib.Core.Path.{ap, _∙_}
 use mathlib.Core.List.{map}
 use Prim.Native.Nat.{ℕ}
 use lib.ListN.{take}
 use Rattle.gil.specs.Names.{placeOf}
-use Rattle.text_tokens.specs.Seen.{nameAt}
-use Rattle.text_programs.specs.Linked.{calleeIn}
+use Rattle.text_tokens.specs.Mirror.Seen.{nameAt}
+use Rattle.text_programs.specs.Mirror.Linked.{calleeIn}
 use borrow.Author.Needs.{needs}
 use Rattle.text_programs.proofs.link.callee.Statement.{statement}
 use Rattle.text_programs.proofs.link.callee.Tie as tie
-use Rattle.text_programs.proofs.link.callee.Reads as reads
-use Rattle.text_programs.proofs.link.callee.Lts as lts
-use Rattle.text_names.proofs.find.Reads as find-reads
-use Rattle.text_programs.proofs.link.place_of.Reads as place-of-reads
 
 -- src/link.rt:23:9
 place-of-requires : tie.Need-place-of-requires

@@ -1,17 +1,16 @@
--- `programs::link::link` meets its contract. Assumes nothing.
+-- `link::link` meets its contract. Assumes nothing.
 use Prim.Native.Nat.{_≤_, _-_}
 use mathlib.Core.Path.{_≡_, _∙_}
 use native.Mathlib.Omega.{arith}
 use lib.ListN.{length}
-use Rattle.text_programs.specs.Linked.{calleeIn, linkFrom, link-start, link-more, link-end, links-all}
+use Rattle.text_programs.specs.Mirror.Linked.{calleeIn}
+use Rattle.text_programs.specs.Steps.Linked.{linkFrom, link-start, link-more, link-end, links-all}
+use Rattle.text_names.specs.Mirror.Sizes.{namesWords}
 use Rattle.text_programs.proofs.link.link.Statement.{statement}
 use Rattle.text_programs.proofs.link.link.Tie as tie
-use Rattle.text_programs.proofs.link.link.Reads as reads
-use Rattle.text_programs.proofs.link.link.Lts as lts
-use Rattle.text_programs.proofs.link.link_command.Reads as link-command-reads
 
 abbrev Inv-loop : tie.InvT-loop
-Inv-loop text code₀ commands calls procs n i₀ code i = (i ≤ commands) × (length calls ≡ 33 → length procs ≡ 33 → linkFrom (calleeIn text calls procs n) code₀ 0 commands ≡ linkFrom (calleeIn text calls procs n) code i (commands - i))
+Inv-loop text code₀ commands calls procs n i₀ code i = (i ≤ commands) × (length calls ≡ namesWords → length procs ≡ namesWords → linkFrom (calleeIn text calls procs n) code₀ 0 commands ≡ linkFrom (calleeIn text calls procs n) code i (commands - i))
 
 abbrev μ-loop : tie.MeasureT-loop
 μ-loop text code₀ commands calls procs n i₀ code i = commands - i

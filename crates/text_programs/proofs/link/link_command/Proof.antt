@@ -1,14 +1,13 @@
--- `programs::link::link_command` meets its contract. Assumes nothing.
+-- `link::link_command` meets its contract. Assumes nothing.
 use mathlib.Core.Path.{sym, ap, _∙_}
 use Prim.Native.Nat.{_+_, _*_}
 use lib.ListN.{set}
-use Rattle.text_programs.specs.Linked.{calleeIn, link-call, link-other}
+use Rattle.text_programs.specs.Mirror.Linked.{calleeIn}
+use Rattle.text_programs.specs.Steps.Linked.{link-call, link-other}
 use borrow.Author.Needs.{needs}
+use Rattle.machine_code.specs.Code.{commandSize, commandsAt}
 use Rattle.text_programs.proofs.link.link_command.Statement.{statement}
 use Rattle.text_programs.proofs.link.link_command.Tie as tie
-use Rattle.text_programs.proofs.link.link_command.Reads as reads
-use Rattle.text_programs.proofs.link.link_command.Lts as lts
-use Rattle.text_programs.proofs.link.callee.Reads as callee-reads
 
 -- src/link.rt:39:19
 mul-at : tie.Need-mul-at
@@ -56,7 +55,7 @@ element-write-code c = search needs
 
 -- src/link.rt:28:1
 returns : tie.Need-returns
-returns c = λ lc lp. ap (set (c .before .before .before .before .before .args .code .now) (50 + 5 * c .before .before .before .before .before .args .i + 3)) (c .callee .ensures lc lp) ∙ sym (link-call (calleeIn (c .before .before .before .before .before .args .text .now) (c .before .before .before .before .before .args .calls .now) (c .before .before .before .before .before .args .procs .now) (c .before .before .before .before .before .args .n)) (c .before .before .before .before .before .args .code .now) (c .before .before .before .before .before .args .i) (c .before .before .if1 .taken))
+returns c = λ lc lp. ap (set (c .before .before .before .before .before .args .code .now) (commandsAt + commandSize * c .before .before .before .before .before .args .i + 3)) (c .callee .ensures lc lp) ∙ sym (link-call (calleeIn (c .before .before .before .before .before .args .text .now) (c .before .before .before .before .before .args .calls .now) (c .before .before .before .before .before .args .procs .now) (c .before .before .before .before .before .args .n)) (c .before .before .before .before .before .args .code .now) (c .before .before .before .before .before .args .i) (c .before .before .if1 .taken))
 
 -- src/link.rt:28:1
 returns-2 : tie.Need-returns-2

@@ -1,12 +1,10 @@
--- `programs::link::place_of` meets its contract. Assumes nothing.
+-- `link::place_of` meets its contract. Assumes nothing.
 use native.Mathlib.Omega.{arith}
 use mathlib.Core.Path.{sym}
 use lib.ListN.{List·getD-eq-default}
 use borrow.Author.Needs.{needs}
 use Rattle.text_programs.proofs.link.place_of.Statement.{statement}
 use Rattle.text_programs.proofs.link.place_of.Tie as tie
-use Rattle.text_programs.proofs.link.place_of.Reads as reads
-use Rattle.text_programs.proofs.link.place_of.Lts as lts
 
 -- src/link.rt:13:16
 mul-result : tie.Need-mul-result

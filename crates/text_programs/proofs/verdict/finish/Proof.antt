@@ -1,15 +1,10 @@
--- `programs::verdict::finish` meets its contract. Assumes nothing.
+-- `verdict::finish` meets its contract. Assumes nothing.
 use Rattle.gil.specs.Text.{bytes}
-use Rattle.text_programs.specs.Reads.{finishes}
+use Rattle.text_programs.specs.Steps.Reads.{finishes}
 use native.Mathlib.Omega.{arith}
 use borrow.Author.Needs.{needs}
 use Rattle.text_programs.proofs.verdict.finish.Statement.{statement}
 use Rattle.text_programs.proofs.verdict.finish.Tie as tie
-use Rattle.text_programs.proofs.verdict.finish.Reads as reads
-use Rattle.text_programs.proofs.verdict.finish.Lts as lts
-use Rattle.text_names.proofs.search.Reads as search-reads
-use Rattle.text_names.proofs.wide.Reads as wide-reads
-use Rattle.text_programs.proofs.link.link.Reads as link-reads
 
 -- src/verdict.rt:108:25
 element-copy-out-wide : tie.Need-element-copy-out-wide
@@ -21,7 +16,7 @@ wide-requires c κs = search needs
 
 -- src/verdict.rt:110:9
 returns : tie.Need-returns
-returns c = λ lc lp few most. absurd (omega (arith, c .if1 .taken, c .before .wide .ensures))
+returns c = λ lc lp few most. absurd (omega (arith, c .if1 .taken, c .before .wide .ensures .0))
 
 -- src/verdict.rt:113:9
 returns-2 : tie.Need-returns-2
@@ -58,7 +53,7 @@ element-write-code-2 c = search needs
 -- src/verdict.rt:99:1
 returns-3 : tie.Need-returns-3
 unfolding bytes
-returns-3 c = λ lc lp few most. finishes (c .before .before .before .before .before .before .wide .ensures) (c .before .before .link .ensures lc lp) (c .search .ensures .0 lp)
+returns-3 c = λ lc lp few most. finishes (c .before .before .before .before .before .before .wide .ensures .0) (c .before .before .link .ensures lc lp) (c .search .ensures .0 lp)
 
 pub finish-spec : {M : Type 1} → statement M
 finish-spec =

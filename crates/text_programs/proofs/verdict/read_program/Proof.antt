@@ -1,15 +1,10 @@
--- `programs::verdict::read_program` meets its contract. Assumes nothing.
-use Rattle.text_programs.specs.Verdict.{answer-3}
-use Rattle.text_programs.specs.Reads.{reads-refused, reads-told, reads-all}
+-- `verdict::read_program` meets its contract. Assumes nothing.
+use Rattle.text_programs.specs.Steps.Verdict.{answer-3}
+use Rattle.text_programs.specs.Steps.Reads.{reads-refused, reads-told, reads-all}
 use native.Mathlib.Omega.{arith}
 use borrow.Author.Needs.{needs}
 use Rattle.text_programs.proofs.verdict.read_program.Statement.{statement}
 use Rattle.text_programs.proofs.verdict.read_program.Tie as tie
-use Rattle.text_programs.proofs.verdict.read_program.Reads as reads
-use Rattle.text_programs.proofs.verdict.read_program.Lts as lts
-use Rattle.text_programs.proofs.lists.procedures_of.Reads as procedures-of-reads
-use Rattle.text_programs.proofs.verdict.finish.Reads as finish-reads
-use Rattle.text_programs.proofs.verdict.refusal.Reads as refusal-reads
 
 -- src/verdict.rt:127:9
 returns : tie.Need-returns

@@ -1,16 +1,11 @@
--- `programs::verdict::refusal` meets its contract. Assumes nothing.
-use Rattle.text_programs.specs.Verdict.{answer-4, answer-tests, answer-chain, kept-procs, kept-calls, procs-count}
-use Rattle.text_programs.specs.Items.{was-read}
-use Rattle.text_programs.specs.Procedures.{callsOf}
+-- `verdict::refusal` meets its contract. Assumes nothing.
+use Rattle.text_programs.specs.Steps.Verdict.{answer-4, answer-tests, answer-chain, kept-procs, kept-calls, procs-count}
+use Rattle.text_procedures.specs.Laws.Items.{was-read}
+use Rattle.text_procedures.specs.Mirror.Procedures.{callsOf}
 use Rattle.gil.specs.Names.{procNames, gather}
 use borrow.Author.Needs.{needs}
 use Rattle.text_programs.proofs.verdict.refusal.Statement.{statement}
 use Rattle.text_programs.proofs.verdict.refusal.Tie as tie
-use Rattle.text_programs.proofs.verdict.refusal.Reads as reads
-use Rattle.text_programs.proofs.verdict.refusal.Lts as lts
-use Rattle.text_programs.proofs.verdict.over_limits.Reads as over-limits-reads
-use Rattle.text_programs.proofs.verdict.refused_if.Reads as refused-if-reads
-use Rattle.text_programs.proofs.verdict.wrong_names.Reads as wrong-names-reads
 
 -- src/verdict.rt:87:9
 returns : tie.Need-returns

@@ -1,22 +1,21 @@
--- `programs::verdict::some_missing` meets its contract. Assumes nothing.
-use Prim.Native.Nat.{_≤_, _+_, _-_}
-use mathlib.Core.Path.{_≡_, refl, sym, _∙_}
+-- `verdict::some_missing` meets its contract. Assumes nothing.
+use Prim.Native.Nat.{_≤_, _-_}
+use mathlib.Core.Path.{_≡_, sym, _∙_}
 use mathlib.Core.List.{map}
 use borrow.Author.Needs.{needs}
 use native.Mathlib.Omega.{arith}
 use lib.ListN.{length, drop, take, getD}
 use Rattle.gil.specs.Names.{any}
-use Rattle.text_tokens.specs.Seen.{nameAt}
-use Rattle.text_programs.specs.Verdict.{lost, anyLost, lost-many, lost-all, lost-none, lost-here, lost-on}
+use Rattle.text_tokens.specs.Mirror.Seen.{nameAt}
+use Rattle.text_programs.specs.Mirror.Verdict.{lost, anyLost}
+use Rattle.text_programs.specs.Steps.Verdict.{lost-many, lost-all, lost-none, lost-here, lost-on}
+use Rattle.text_names.specs.Mirror.Sizes.{countAt, namesWords}
+use Rattle.gil.specs.Numbers.{mostProcedures}
 use Rattle.text_programs.proofs.verdict.some_missing.Statement.{statement}
 use Rattle.text_programs.proofs.verdict.some_missing.Tie as tie
-use Rattle.text_programs.proofs.verdict.some_missing.Reads as reads
-use Rattle.text_programs.proofs.verdict.some_missing.Lts as lts
-use Rattle.text_names.proofs.find.Reads as find-reads
-use Rattle.text_names.proofs.wide.Reads as wide-reads
 
 abbrev Inv-loop : tie.InvT-loop
-Inv-loop text calls procs n m i₀ i = (m ≤ 16) × (i ≤ m) × (m ≡ getD calls 32 0) × (length calls ≡ 33 → length procs ≡ 33 → anyLost text calls procs n ≡ any (lost text procs n) (map (nameAt text) (drop i (take m calls))))
+Inv-loop text calls procs n m i₀ i = (m ≤ mostProcedures) × (i ≤ m) × (m ≡ getD calls countAt 0) × (length calls ≡ namesWords → length procs ≡ namesWords → anyLost text calls procs n ≡ any (lost text procs n) (map (nameAt text) (drop i (take m calls))))
 
 abbrev μ-loop : tie.MeasureT-loop
 μ-loop text calls procs n m i₀ i = m - i
@@ -31,11 +30,11 @@ wide-requires c κs = search needs
 
 -- src/verdict.rt:42:9
 returns : tie.Need-returns Inv-loop μ-loop
-returns c = λ lc lp. lost-many (c .before .before .before .before .args .text .now) (c .before .before .before .before .args .calls .now) (c .before .before .before .before .args .procs .now) (c .before .before .before .before .args .n) (c .before .wide .result) (c .before .wide .ensures) (c .if1 .taken)
+returns c = λ lc lp. lost-many (c .before .before .before .before .args .text .now) (c .before .before .before .before .args .calls .now) (c .before .before .before .before .args .procs .now) (c .before .before .before .before .args .n) (c .before .wide .result) (c .before .wide .ensures .0) (c .if1 .taken)
 
 -- src/verdict.rt:45:5
 loop-holds : tie.Need-loop-holds Inv-loop μ-loop
-loop-holds c = (c .if1 .left, omega arith, c .before .wide .ensures, λ lc lp. lost-all (c .before .before .before .before .args .text .now) (c .before .before .before .before .args .calls .now) (c .before .before .before .before .args .procs .now) (c .before .before .before .before .args .n) (c .before .wide .result) (c .before .wide .ensures) (c .if1 .left) lc)
+loop-holds c = (c .if1 .left, omega arith, c .before .wide .ensures .0, λ lc lp. lost-all (c .before .before .before .before .args .text .now) (c .before .before .before .before .args .calls .now) (c .before .before .before .before .args .procs .now) (c .before .before .before .before .args .n) (c .before .wide .result) (c .before .wide .ensures .0) (c .if1 .left) lc)
 
 -- src/verdict.rt:46:36
 mul-find : tie.Need-mul-find Inv-loop μ-loop
@@ -51,7 +50,7 @@ find-requires c κs = c .before .before .before .before .before .before .before 
 
 -- src/verdict.rt:48:13
 returns-2 : tie.Need-returns-2 Inv-loop μ-loop
-returns-2 c = λ lc lp. lost-here (c .before .before .before .before .before .before .before .before .before .args .text .now) (c .before .before .before .before .before .before .before .before .before .args .calls .now) (c .before .before .before .before .before .before .before .before .before .args .procs .now) (c .before .before .before .before .before .before .before .before .before .args .n) (c .before .before .before .before .before .before .wide .result) (c .before .before .before .before .before .before .wide .ensures) (c .before .before .before .before .before .if1 .left) lc (c .before .before .before .before .loop .i) (c .before .find .result) (c .before .before .before .loop-test .taken) (c .before .find .ensures .0 lp) (c .if2 .taken) ∙ sym (c .before .before .before .before .loop .inv .3 lc lp)
+returns-2 c = λ lc lp. lost-here (c .before .before .before .before .before .before .before .before .before .args .text .now) (c .before .before .before .before .before .before .before .before .before .args .calls .now) (c .before .before .before .before .before .before .before .before .before .args .procs .now) (c .before .before .before .before .before .before .before .before .before .args .n) (c .before .before .before .before .before .before .wide .result) (c .before .before .before .before .before .before .wide .ensures .0) (c .before .before .before .before .before .if1 .left) lc (c .before .before .before .before .loop .i) (c .before .find .result) (c .before .before .before .loop-test .taken) (c .before .find .ensures .0 lp) (c .if2 .taken) ∙ sym (c .before .before .before .before .loop .inv .3 lc lp)
 
 -- src/verdict.rt:50:9
 add-i : tie.Need-add-i Inv-loop μ-loop
@@ -63,11 +62,11 @@ loop-less c = omega arith
 
 -- src/verdict.rt:45:5
 loop-again : tie.Need-loop-again Inv-loop μ-loop
-loop-again c = (c .before .before .before .before .loop .inv .0, omega arith, c .before .before .before .before .loop .inv .2, λ lc lp. c .before .before .before .before .loop .inv .3 lc lp ∙ lost-on (c .before .before .before .before .before .before .before .before .before .args .text .now) (c .before .before .before .before .before .before .before .before .before .args .calls .now) (c .before .before .before .before .before .before .before .before .before .args .procs .now) (c .before .before .before .before .before .before .before .before .before .args .n) (c .before .before .before .before .before .before .wide .result) (c .before .before .before .before .before .before .wide .ensures) (c .before .before .before .before .before .if1 .left) lc (c .before .before .before .before .loop .i) (c .before .find .result) (c .before .before .before .loop-test .taken) (c .before .find .ensures .0 lp) (c .if2 .left))
+loop-again c = (c .before .before .before .before .loop .inv .0, omega arith, c .before .before .before .before .loop .inv .2, λ lc lp. c .before .before .before .before .loop .inv .3 lc lp ∙ lost-on (c .before .before .before .before .before .before .before .before .before .args .text .now) (c .before .before .before .before .before .before .before .before .before .args .calls .now) (c .before .before .before .before .before .before .before .before .before .args .procs .now) (c .before .before .before .before .before .before .before .before .before .args .n) (c .before .before .before .before .before .before .wide .result) (c .before .before .before .before .before .before .wide .ensures .0) (c .before .before .before .before .before .if1 .left) lc (c .before .before .before .before .loop .i) (c .before .find .result) (c .before .before .before .loop-test .taken) (c .before .find .ensures .0 lp) (c .if2 .left))
 
 -- src/verdict.rt:36:1
 returns-3 : tie.Need-returns-3 Inv-loop μ-loop
-returns-3 c = λ lc lp. lost-none (c .before .before .before .before .before .before .args .text .now) (c .before .before .before .before .before .before .args .calls .now) (c .before .before .before .before .before .before .args .procs .now) (c .before .before .before .before .before .before .args .n) (c .before .before .before .wide .result) (c .before .before .before .wide .ensures) (c .before .before .if1 .left) lc (c .before .loop .i) (c .loop-test .left) (c .before .loop .inv .1) ∙ sym (c .before .loop .inv .3 lc lp)
+returns-3 c = λ lc lp. lost-none (c .before .before .before .before .before .before .args .text .now) (c .before .before .before .before .before .before .args .calls .now) (c .before .before .before .before .before .before .args .procs .now) (c .before .before .before .before .before .before .args .n) (c .before .before .before .wide .result) (c .before .before .before .wide .ensures .0) (c .before .before .if1 .left) lc (c .before .loop .i) (c .loop-test .left) (c .before .loop .inv .1) ∙ sym (c .before .loop .inv .3 lc lp)
 
 pub some-missing-spec : {M : Type 1} → statement M
 some-missing-spec =

@@ -1,10 +1,8 @@
--- `tokens::lexemes::coloned` meets its contract. Assumes nothing.
-use Rattle.text_tokens.specs.Seen.{found-colon, found-colon-last, found-becomes}
+-- `lexemes::coloned` meets its contract. Assumes nothing.
+use Rattle.text_tokens.specs.Steps.Seen.{found-colon, found-colon-last, found-becomes}
 use borrow.Author.Needs.{needs}
 use Rattle.text_tokens.proofs.lexemes.coloned.Statement.{statement}
 use Rattle.text_tokens.proofs.lexemes.coloned.Tie as tie
-use Rattle.text_tokens.proofs.lexemes.coloned.Reads as reads
-use Rattle.text_tokens.proofs.lexemes.coloned.Lts as lts
 
 -- src/lexemes.rt:70:16
 add-from : tie.Need-add-from

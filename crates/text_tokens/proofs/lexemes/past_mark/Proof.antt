@@ -1,12 +1,9 @@
--- `tokens::lexemes::past_mark` meets its contract. Assumes nothing.
+-- `lexemes::past_mark` meets its contract. Assumes nothing.
 use native.Mathlib.Omega.{arith}
-use Rattle.text_tokens.specs.Marks.{marked-end, marked-other, marked-there}
+use Rattle.text_tokens.specs.Steps.Marks.{marked-end, marked-other, marked-there}
 use borrow.Author.Needs.{needs}
 use Rattle.text_tokens.proofs.lexemes.past_mark.Statement.{statement}
 use Rattle.text_tokens.proofs.lexemes.past_mark.Tie as tie
-use Rattle.text_tokens.proofs.lexemes.past_mark.Reads as reads
-use Rattle.text_tokens.proofs.lexemes.past_mark.Lts as lts
-use Rattle.text_tokens.proofs.scan.past_white.Reads as past-white-reads
 
 -- src/lexemes.rt:144:9
 past-white-requires : tie.Need-past-white-requires

@@ -1,12 +1,8 @@
--- `tokens::lexemes::quoted` meets its contract. Assumes nothing.
-use Rattle.text_tokens.specs.Seen.{quote-last, quote-open, quote-empty, quote-long, quote-property}
+-- `lexemes::quoted` meets its contract. Assumes nothing.
+use Rattle.text_tokens.specs.Steps.Seen.{quote-last, quote-open, quote-empty, quote-long, quote-property}
 use borrow.Author.Needs.{needs}
 use Rattle.text_tokens.proofs.lexemes.quoted.Statement.{statement}
 use Rattle.text_tokens.proofs.lexemes.quoted.Tie as tie
-use Rattle.text_tokens.proofs.lexemes.quoted.Reads as reads
-use Rattle.text_tokens.proofs.lexemes.quoted.Lts as lts
-use Rattle.text_tokens.proofs.lexemes.place_of.Reads as place-of-reads
-use Rattle.text_tokens.proofs.scan.past_run.Reads as past-run-reads
 
 -- src/lexemes.rt:42:16
 add-from : tie.Need-add-from

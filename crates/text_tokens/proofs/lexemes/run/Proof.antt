@@ -1,16 +1,12 @@
--- `tokens::lexemes::run` meets its contract. Assumes nothing.
+-- `lexemes::run` meets its contract. Assumes nothing.
 use Prim.Native.Nat.{_≤_}
 use native.Mathlib.Omega.{arith}
 use Rattle.gil.specs.Text.{inRun}
-use Rattle.text_tokens.specs.Seen.{found-run, past-fits}
+use Rattle.text_tokens.specs.Steps.Seen.{found-run, past-fits}
 use borrow.Author.Needs.{needs}
+use Rattle.gil.specs.Numbers.{mostBytes}
 use Rattle.text_tokens.proofs.lexemes.run.Statement.{statement}
 use Rattle.text_tokens.proofs.lexemes.run.Tie as tie
-use Rattle.text_tokens.proofs.lexemes.run.Reads as reads
-use Rattle.text_tokens.proofs.lexemes.run.Lts as lts
-use Rattle.text_tokens.proofs.lexemes.place_of.Reads as place-of-reads
-use Rattle.text_tokens.proofs.scan.past_run.Reads as past-run-reads
-use Rattle.text_tokens.proofs.words.word_of.Reads as word-of-reads
 
 -- src/lexemes.rt:92:9
 past-run-requires : tie.Need-past-run-requires
@@ -22,7 +18,7 @@ sub-place-of c = search needs
 
 -- src/lexemes.rt:93:9
 place-of-requires : tie.Need-place-of-requires
-place-of-requires c κs = let h : c .past-run .result ≤ 16384 = omega (arith, past-fits inRun (c .before .before .args .text .now) (c .before .before .args .i) (omega arith), c .past-run .ensures) in omega arith
+place-of-requires c κs = let h : c .past-run .result ≤ mostBytes = omega (arith, past-fits inRun (c .before .before .args .text .now) (c .before .before .args .i) (omega arith), c .past-run .ensures) in omega arith
 
 -- src/lexemes.rt:94:28
 sub-word-of : tie.Need-sub-word-of

@@ -1,12 +1,8 @@
--- `tokens::lexemes::token` meets its contract. Assumes nothing.
-use Rattle.text_tokens.specs.Seen.{found-past}
+-- `lexemes::token` meets its contract. Assumes nothing.
+use Rattle.text_tokens.specs.Steps.Seen.{found-past}
 use borrow.Author.Needs.{needs}
 use Rattle.text_tokens.proofs.lexemes.token.Statement.{statement}
 use Rattle.text_tokens.proofs.lexemes.token.Tie as tie
-use Rattle.text_tokens.proofs.lexemes.token.Reads as reads
-use Rattle.text_tokens.proofs.lexemes.token.Lts as lts
-use Rattle.text_tokens.proofs.lexemes.token_from.Reads as token-from-reads
-use Rattle.text_tokens.proofs.scan.past_white.Reads as past-white-reads
 
 -- src/lexemes.rt:134:22
 past-white-requires : tie.Need-past-white-requires

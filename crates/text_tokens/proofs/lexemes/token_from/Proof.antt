@@ -1,18 +1,11 @@
--- `tokens::lexemes::token_from` meets its contract. Assumes nothing.
-use mathlib.Core.Path.{sym, _∙_, refl, ap}
+-- `lexemes::token_from` meets its contract. Assumes nothing.
+use mathlib.Core.Path.{sym, _∙_, refl}
 use native.Mathlib.Omega.{arith}
 use lib.ListN.{getD}
-use Rattle.gil.specs.Text.{inRun}
-use Rattle.text_tokens.specs.Seen.{found-end, found-plain}
+use Rattle.text_tokens.specs.Steps.Seen.{found-end, found-plain}
 use borrow.Author.Needs.{needs}
 use Rattle.text_tokens.proofs.lexemes.token_from.Statement.{statement}
 use Rattle.text_tokens.proofs.lexemes.token_from.Tie as tie
-use Rattle.text_tokens.proofs.lexemes.token_from.Reads as reads
-use Rattle.text_tokens.proofs.lexemes.token_from.Lts as lts
-use Rattle.text_tokens.proofs.classes.in_run.Reads as in-run-reads
-use Rattle.text_tokens.proofs.lexemes.coloned.Reads as coloned-reads
-use Rattle.text_tokens.proofs.lexemes.quoted.Reads as quoted-reads
-use Rattle.text_tokens.proofs.lexemes.run.Reads as run-reads
 
 -- src/lexemes.rt:108:9
 returns : tie.Need-returns

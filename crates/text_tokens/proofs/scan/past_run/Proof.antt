@@ -1,17 +1,14 @@
--- `tokens::scan::past_run` meets its contract. Assumes nothing.
-use Prim.Native.Nat.{_≤_, _+_, _-_}
+-- `scan::past_run` meets its contract. Assumes nothing.
+use Prim.Native.Nat.{_+_, _-_}
 use mathlib.Core.Path.{_≡_, refl, sym, _∙_}
 use borrow.Author.Needs.{needs}
 use borrow.Author.Tests.{not-true, not-false}
 use native.Mathlib.Omega.{arith}
 use lib.ListN.{length, drop}
-use Rattle.text_tokens.specs.Scan.{span-end, span-stop, span-more}
+use Rattle.text_tokens.specs.Steps.Scan.{span-end, span-stop, span-more}
 use Rattle.gil.specs.Text.{span, inRun, skipWhite}
 use Rattle.text_tokens.proofs.scan.past_run.Statement.{statement}
 use Rattle.text_tokens.proofs.scan.past_run.Tie as tie
-use Rattle.text_tokens.proofs.scan.past_run.Reads as reads
-use Rattle.text_tokens.proofs.scan.past_run.Lts as lts
-use Rattle.text_tokens.proofs.classes.in_run.Reads as in-run-reads
 
 abbrev Inv-loop : tie.InvT-loop
 Inv-loop text at i₀ i = i₀ + span inRun (drop i₀ text) ≡ i + span inRun (drop i text)

@@ -1,17 +1,14 @@
--- `tokens::scan::past_white` meets its contract. Assumes nothing.
-use Prim.Native.Nat.{_≤_, _+_, _-_}
+-- `scan::past_white` meets its contract. Assumes nothing.
+use Prim.Native.Nat.{_+_, _-_}
 use mathlib.Core.Path.{_≡_, refl, sym, _∙_}
 use borrow.Author.Needs.{needs}
 use borrow.Author.Tests.{not-true, not-false}
 use native.Mathlib.Omega.{arith}
 use lib.ListN.{length, drop}
-use Rattle.text_tokens.specs.Scan.{span-end, span-stop, span-more}
+use Rattle.text_tokens.specs.Steps.Scan.{span-end, span-stop, span-more}
 use Rattle.gil.specs.Text.{span, white, skipWhite}
 use Rattle.text_tokens.proofs.scan.past_white.Statement.{statement}
 use Rattle.text_tokens.proofs.scan.past_white.Tie as tie
-use Rattle.text_tokens.proofs.scan.past_white.Reads as reads
-use Rattle.text_tokens.proofs.scan.past_white.Lts as lts
-use Rattle.text_tokens.proofs.classes.is_white.Reads as is-white-reads
 
 abbrev Inv-loop : tie.InvT-loop
 Inv-loop text at i₀ i = i₀ + span white (drop i₀ text) ≡ i + span white (drop i text)

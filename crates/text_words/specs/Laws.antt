@@ -1,0 +1,2 @@
+-- Laws that other crates cite. Assumes nothing.
+pub mod Words
