@@ -3,7 +3,7 @@
 // the search in the cells (crates/machine_cells), so that nothing here holds them. An action that errs leaves variables and cells as they were.
 ghost use mathlib.Core.Path.{_≡_};
 ghost use Rattle.machine_commands.specs.Mirror.{acted};
-ghost use Rattle.machine_actions.specs.Mirror.{erringIn, askingIn, askIn, asks, lackIn, concludeIn};
+ghost use Rattle.machine_actions.specs.Mirror.{erringIn, askingIn, askIn, asks, concludeIn};
 use gil::numbers;
 use machine_cells as cells;
 use machine_cells::Ask;
@@ -76,22 +76,15 @@ pub fn ask(
     asking(m, v, u)
 }
 
-// What an action errs by that the cells gave nothing
-fn lack(kind: u32) -> u32
-    ensures { λ r. ⌜ r ≡ lackIn kind ⌝ }
-{
-    match kind {
-        LOOKUP_KIND => numbers::NO_SUCH_CELL,
-        _ => numbers::THIRTY_THIRD_CELL,
-    }
-}
-
 // What an action comes to once the cells have given something, or nothing: "3 no such cell", "7 a thirty-third cell"
 pub fn conclude(c: Control, kind: u32, x: u32, given: u64, store: &mut [u64; STORE_WORDS]) -> Next
     ensures { λ r. ⌜ acted r (now (store .exit)) ≡ concludeIn c kind x given (now (store .entry)) ⌝ }
 {
     if given == 0 {
-        return Next::Error(lack(kind));
+        match kind {
+            LOOKUP_KIND => return Next::Error(numbers::NO_SUCH_CELL),
+            _ => return Next::Error(numbers::THIRTY_THIRD_CELL),
+        }
     }
     commands::assign(c, x, given, store)
 }
