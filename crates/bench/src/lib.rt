@@ -11,6 +11,8 @@
 //   8   "a procedure whose last command is not return, fail or vanish"
 //   9   "a 65th row would be finished"
 //   10  "a 2,049th term would be made"
+#![tactic(auto)]
+
 ghost use Rattle.gil.specs.Promises.{Promise, check, plain_run, explore, place};
 
 // check: 0 where a text is accepted, or its refusal, 3 to 8

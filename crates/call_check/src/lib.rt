@@ -1,4 +1,6 @@
 // check: 0 where a text is accepted, or its refusal, 3 to 8. It is given nothing that 1 and 2 could refuse. Assumes nothing.
+#![tactic(auto)]
+
 ghost use Rattle.gil.specs.Promises.{Promise, check};
 
 use call_given as given;

@@ -1,5 +1,7 @@
 // explore: 0, and table and pool hold the rows and their terms; 1 to 8, and both are untouched; or 9 or 10, and the needed part of both is
 // zero. Assumes nothing.
+#![tactic(auto)]
+
 pub mod tables;
 
 ghost use Rattle.gil.specs.Promises.{Promise, explore};

@@ -1,5 +1,7 @@
 // What every call begins with: refusals 1 to 8, "in the order tested". Budgets come first (1), then lent memory and the input list (2), then
 // the text (3 to 8), which is read into a program's words. And the sixteen inputs of a list that passed. No lent memory is written here.
+#![tactic(auto)]
+
 ghost use Rattle.std.specs.Prelude.{◌≡◌, ◌||◌, length, replicate, ltb};
 ghost use Rattle.gil.specs.Numbers.{table_length, pool_length, inputs_length};
 ghost use Rattle.gil.specs.Layout.{input_words};

@@ -1,5 +1,7 @@
 // place: 256 more than the number of the row that the inputs fall in, and table and pool as explore leaves them; or 1 to 10, as explore. Assumes
 // nothing.
+#![tactic(auto)]
+
 ghost use Rattle.gil.specs.Promises.{Promise, place};
 
 use call_explore::tables;

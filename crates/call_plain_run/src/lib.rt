@@ -1,5 +1,7 @@
 // plain run: 0, and the answer's first 1,024 bytes are those of the run on the sixteen inputs; or 1 to 8, and the answer is untouched. Assumes
 // nothing.
+#![tactic(auto)]
+
 ghost use Rattle.gil.specs.Promises.{Promise, plain_run};
 
 use call_given as given;

@@ -1,5 +1,7 @@
 // Words in bytes, "four a word, lowest first": read, written and zeroed where they stand in lent memory. All but `set_word` are total: a word
 // that does not lie in the memory whole reads as 0, and a store of one does nothing. Beside them what every reader of such words needs.
+#![tactic(auto)]
+
 ghost use Rattle.std.specs.Prelude.{◌≡◌, ◌+◌, ◌<◌, ◌≤◌, length, replicate};
 ghost use Rattle.std.proofs.lemmas.List.Edits.{sets};
 ghost use Rattle.gil.specs.Layout.{word_bytes};

@@ -1,6 +1,8 @@
 // The actions on cells, as `commands::step` takes the other commands, in two parts: `ask` evaluates the operands left to right and tests their
 // sorts, and says what is asked of the cells; `conclude` gives the action's variable what the cells gave, or errs by 3 or 7. Between the two stands
 // the search in the cells (crates/machine_cells), so that nothing here holds them. An action that errs leaves variables and cells as they were.
+#![tactic(auto)]
+
 ghost use Rattle.std.specs.Prelude.{◌≡◌};
 ghost use Rattle.machine_commands.specs.Mirror.{acted};
 ghost use Rattle.machine_actions.specs.Mirror.{erring_in, asking_in, ask_in, asks, conclude_in};

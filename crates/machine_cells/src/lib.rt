@@ -2,6 +2,8 @@
 // first `held` of them in use and in order (specs/Laws/Order.antt). Search, insert and removal work on the lent slice, so that no cell is copied but
 // those that move; `decide` says for each action, from what was found, what is to be put in and taken out. What is found, put in and taken out
 // is Machine's `cell_at`, `put_cell` and `without_cells` over the cells in use (specs/Mirror.antt, specs/Laws/Served.antt).
+#![tactic(auto)]
+
 ghost use Rattle.std.specs.Prelude.{◌≡◌, ◌<◌, ◌≤◌, length, drop};
 ghost use Rattle.gil.specs.Machine.{is_at, without_cells};
 ghost use Rattle.machine_cells.specs.Mirror.{cell_of, held_in, reaches, FoundAt, hits, carried_in, doing, nothing_in, mutated_in, looked_in, deed_in};

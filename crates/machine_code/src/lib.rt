@@ -1,5 +1,7 @@
 // How an accepted program stands in an array of words (specs/Code.antt: the reader writes it and the engine reads it), and the sizes of a
 // path's store. A word is read as it stands, 0 past the end.
+#![tactic(auto)]
+
 ghost use Rattle.std.specs.Prelude.{◌≡◌, ◌<◌};
 ghost use Rattle.machine_code.specs.Mirror.{code_word};
 

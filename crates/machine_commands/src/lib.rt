@@ -3,6 +3,8 @@
 // command's errors come in document 01's order, and a command that errs, ends or forks leaves the store as it was. With known inputs `i_sym`
 // yields the input itself, so that no term is made and no fork taken. Words are read as they stand; crates/machine_laws shows that on a program's
 // words one command here is one move of document 01's machine.
+#![tactic(auto)]
+
 ghost use Rattle.std.specs.Prelude.{◌≡◌, ◌<◌};
 ghost use Rattle.gil.specs.Numbers.{most_variables, most_inputs, most_locations};
 ghost use Rattle.machine_terms.specs.Mirror.{did};

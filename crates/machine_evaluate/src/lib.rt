@@ -1,6 +1,8 @@
 // Evaluation of an expression that stands in the program's words (crates/machine_code), over the variables of a frame in the lent store: a value's
 // word, or an error number. By recursion with the remaining depth as the falling number; an operand that is a number, a truth or a variable
 // is no call of its own. A variable that is not bound is 0 in the store. Words are read as they stand; specs/Laws.antt shows that on a program's words this is document 01's evaluation.
+#![tactic(auto)]
+
 ghost use Rattle.std.specs.Prelude.{◌≡◌, ◌+◌, ◌*◌, ◌/◌, ◌%◌, ◌<◌};
 ghost use Rattle.machine_code.specs.Code.{kind_range};
 ghost use Rattle.machine_terms.specs.Mirror.{did};

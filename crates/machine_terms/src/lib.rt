@@ -2,6 +2,8 @@
 // is `=` on two sorts. Otherwise, where the sorts are right, it makes one term". A term is five words in the lent pool, 20 bytes at 20 × its
 // place, written where the pool has room; the count goes on past the room, so that the caller can see refusal 10. An answer below 2^32 is
 // an error number. The words are specs/Mirror.antt's; specs/Laws/Engine.antt shows that they are the definitions' terms.
+#![tactic(auto)]
+
 ghost use Rattle.std.specs.Prelude.{◌≡◌, ◌+◌, ◌≤◌, length};
 ghost use Rattle.std.proofs.lemmas.List.Edits.{sets};
 ghost use Rattle.gil.specs.Numbers.{term_length};

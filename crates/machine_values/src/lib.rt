@@ -1,6 +1,8 @@
 // Values as the engine holds them: a tag and a word in one u64, tag × 2^32 + word. Tags: 1 number, 2 boolean, 3 location, 4 number term,
 // 5 boolean term. Below 2^32 there is no value: 0 is nothing (a variable not bound), and where an evaluation answers, n is error n.
 // The operators on constants, and how the sorts of two operands fit; an operator's kind is that of its node. The words are specs/Mirror.antt's; specs/Laws.antt shows that they are document 01's values and operators.
+#![tactic(auto)]
+
 ghost use Rattle.std.specs.Prelude.{◌≡◌, ◌+◌, ◌/◌, ◌%◌};
 ghost use Rattle.machine_values.specs.Mirror.{truth_word, sort_word, needed_word, fit_word, both_word, either_word, work_word};
 

@@ -1,6 +1,8 @@
 // A field: a value's text, or `large`. A term's text is never built: one pass over the pool takes every text's size, each term once, and
 // only a text of at most 200 bytes is written, by crates/print_values. Kinds and tags are docs/LAYOUT.md's. What each function
 // answers or writes, on any bytes, is specs/Mirror.antt's; crates/print_laws shows that this is document 01's printed form.
+#![tactic(auto)]
+
 ghost use Rattle.std.specs.Prelude.{◌≡◌, ◌≤◌, ◌<◌, length};
 ghost use Rattle.gil.specs.Numbers.{most_terms};
 ghost use Rattle.lent_words.specs.Mirror.{at_most};

@@ -1,6 +1,8 @@
 // "The printed table": a table and its pool, from their bytes to CSV in lent memory. Everything is total: on bytes that are no table
 // something is written, in bounded time, and what finds no room is dropped, and counted. Places are docs/LAYOUT.md's. What each function writes is
 // specs/Mirror.antt's; crates/print_laws shows that this is document 01's printed form.
+#![tactic(auto)]
+
 ghost use Rattle.gil.specs.Printed.{refusal_line};
 ghost use Rattle.print_writing.specs.Mirror.{Wrote};
 ghost use Rattle.print_parts.specs.Mirror.{runs};

@@ -1,6 +1,8 @@
 // The parts of a line of the printed table: an outcome with its value, and the conditions, from the bytes of a row and of the pool. Everything is
 // total: on bytes that are no table something is written, in bounded time. Places are docs/LAYOUT.md's. What each function writes is
 // specs/Mirror.antt's; crates/print_laws shows that this is document 01's printed form.
+#![tactic(auto)]
+
 ghost use Rattle.std.specs.Prelude.{◌≡◌, ◌<◌};
 ghost use Rattle.gil.specs.Numbers.{most_branches, conditions_word};
 ghost use Rattle.lent_words.specs.Mirror.{at_most};

@@ -1,6 +1,8 @@
 // "The program reads standard input, explores with 1,024 steps and 16 branches, and prints CSV." Exploring and printing are
 // crates/print_text's; here is only what no contract can speak of: reading and writing. A text of 16,385 bytes is refused whatever comes
 // after them, so no more is read.
+#![tactic(auto)]
+
 ghost use Rattle.std.specs.Prelude.{◌+◌, ◌≤◌, length};
 ghost use Rattle.io.specs.Counts.{IsPrefixLen};
 

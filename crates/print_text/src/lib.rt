@@ -1,4 +1,6 @@
 // "The printed table" of a text, whole: explored with 1,024 steps and 16 branches, and printed into lent memory.
+#![tactic(auto)]
+
 ghost use Rattle.print_text.specs.Promise.{Prints};
 
 use gil::layout::{POOL_BYTES, TABLE_BYTES};

@@ -1,5 +1,7 @@
 // Values and terms as document 01 prints them, from a pool's bytes, by recursion. Kinds and tags are docs/LAYOUT.md's. What each function writes,
 // on any bytes, is specs/Mirror.antt's; crates/print_laws shows that this is document 01's printed form.
+#![tactic(auto)]
+
 ghost use Rattle.print_writing.specs.Mirror.{Wrote};
 ghost use Rattle.print_values.specs.Mirror.{input_form, location_form, constant_form, op_form, value_form};
 

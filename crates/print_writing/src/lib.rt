@@ -1,6 +1,8 @@
 // Text written forward into lent memory, byte after byte: each writer takes a place and gives the place after its text. All are total: what
 // finds no room is dropped, and counts. So two texts written one after the other are their join, whatever the room, and a pass over no
 // memory gives a text's length.
+#![tactic(auto)]
+
 ghost use Rattle.std.specs.Prelude.{◌≡◌, [], ◌∷◌};
 ghost use Rattle.gil.specs.Text.{part};
 ghost use Rattle.gil.specs.Printed.{digits, decimal};

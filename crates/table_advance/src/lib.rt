@@ -1,6 +1,8 @@
 // How far a path has come, and commands in a row up to the next that asks something of the cells or does anything but go on. Control goes by
 // value; the store, the pool and the count of terms are lent, and no cell is seen here. specs/Mirror has the words; crates/table_path does what is
 // asked of the cells between, and shows that the whole is document 01's path.
+#![tactic(auto)]
+
 ghost use Rattle.std.specs.Prelude.{◌≡◌, true};
 ghost use Rattle.machine_cells.specs.Laws.Served.{held_by};
 ghost use Rattle.table_advance.specs.Mirror.Followed.{goes_in, where_in, one_in};

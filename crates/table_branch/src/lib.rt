@@ -1,5 +1,7 @@
 // What an exploration does at a path's end and at a fork: the row of a path that stopped, whether the pool is overfull, the condition that a
 // branch gains, and the branch that waits. Mirror has the words. All are total but for `finish`, which asks for cells in order.
+#![tactic(auto)]
+
 ghost use Rattle.std.specs.Prelude.{◌≡◌};
 ghost use Rattle.machine_cells.specs.Mirror.{held_in};
 ghost use Rattle.machine_cells.specs.Laws.Served.{Tidy};

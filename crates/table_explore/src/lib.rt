@@ -1,6 +1,8 @@
 // The exploration: "As the plain run, over terms", from where every path begins. crates/table_walk goes from fork to fork; here table and pool are
 // zeroed before it, and after a refusal, and the heading is written last. specs/Mirror.antt has the words; crates/table_explore_laws shows that
 // on a program's words they are document 01's table and pool.
+#![tactic(auto)]
+
 ghost use Rattle.std.specs.Prelude.{◌≡◌};
 ghost use Rattle.machine_cells.specs.Mirror.{held_in};
 ghost use Rattle.machine_cells.specs.Laws.Served.{Tidy};

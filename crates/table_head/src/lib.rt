@@ -1,5 +1,7 @@
 // How the row of a path that stopped so begins: outcome, value or error number, steps, position and counts. specs/Mirror.antt has the words;
 // crates/table_path shows that they are document 01's row.
+#![tactic(auto)]
+
 ghost use Rattle.std.specs.Prelude.{◌≡◌, ◌≤◌};
 ghost use Rattle.gil.specs.Numbers.{most_cells};
 ghost use Rattle.table_head.specs.Mirror.{end_of, ended_in, head_in};

@@ -1,6 +1,8 @@
 // A path on a program's words, from one fork to the next: commands one after another, by the one engine, for the plain run and for the
 // exploration. Control goes by value; the store, the pool, the count of terms and the cells are lent. crates/table_advance has the words and
 // all that sees no cell; specs/Laws/Path.antt shows that on a program's words they are document 01's path and, with crates/table_head, its row.
+#![tactic(auto)]
+
 ghost use Rattle.std.specs.Prelude.{◌≡◌, ◌-◌};
 ghost use Rattle.machine_cells.specs.Mirror.{held_in};
 ghost use Rattle.machine_cells.specs.Laws.Served.{Tidy};

@@ -1,5 +1,7 @@
 // The plain run: the one engine with known inputs, so that no term is made and no fork taken. Its answer is a row without conditions.
 // specs/Mirror.antt has the words; specs/Laws.antt shows that on a program's words they are document 01's plain run.
+#![tactic(auto)]
+
 ghost use Rattle.std.specs.Prelude.{◌≡◌, ◌≤◌, ◌<◌, length};
 ghost use Rattle.gil.specs.Numbers.{answer_length};
 ghost use Rattle.table_plain_run.specs.Mirror.{Answered};

@@ -1,6 +1,8 @@
 // The row writer: "A finished row is written into its own part of the lent table". It gets the part of the table that begins at the row, and
 // writes the words that hold something over the zeros there. Counts past their limits and a part that is too short do no harm.
 // Layout: docs/LAYOUT.md. specs/Laws/Row.antt shows that what is left is document 01's row, specs/Laws/Table.antt where rows stand in the table.
+#![tactic(auto)]
+
 ghost use Rattle.std.specs.Prelude.{◌≡◌, [], ◌∷◌, ◌+◌, ◌*◌, ◌<◌};
 ghost use Rattle.gil.specs.Numbers.{most_cells, row_length, conditions_at, variables_at, cells_at};
 ghost use Rattle.lent_words.specs.Mirror.{put_words};

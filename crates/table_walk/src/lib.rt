@@ -1,6 +1,8 @@
 // From fork to fork: a path is followed to the next fork; there it recurses, "true branch first, to its end, and then the false one", and the
 // waiting branch stands on the call stack with its store, its cells and its conditions. Each finished row is written into its own part of the
 // lent table, and terms into the lent pool in the order made. Mirror has the words. It asks for cells in order.
+#![tactic(auto)]
+
 ghost use Rattle.std.specs.Prelude.{◌≡◌};
 ghost use Rattle.machine_cells.specs.Laws.Served.{Tidy};
 ghost use Rattle.table_walk.specs.Mirror.{reached, walks_in};

@@ -1,6 +1,8 @@
 // Tables of names. A name is known by its place in the text (where it starts, times 32, and its length); a table holds the places of
 // the distinct names so far, in order of first appearance, in words 0 to 31, and their count in word 32. A table takes `cap` names, at
 // most 32; one name more and its count is cap + 1 for good. Contracts cite the definitions of crates/gil/specs/Names.antt.
+#![tactic(auto)]
+
 ghost use Rattle.std.specs.Prelude.{◌≡◌, map, ◌+◌, ◌≤◌, ◌<◌, ◌/◌, ◌%◌, min, length, take};
 ghost use Rattle.gil.specs.Text;
 ghost use Rattle.gil.specs.Names.{place_of};

@@ -1,6 +1,8 @@
 // Runs the vectors of every call and writes a line for each, and for a table its rows and terms. The first argument of a vector says which
 // call: check, run (the plain run), explore or place; the others are what the call is given. The vectors and their lines, worked out by hand
 // from document 01, are listed under tests/ (vectors.py). crates/vectors_shown shows what a call left.
+#![tactic(auto)]
+
 mod checked;
 mod explored;
 mod given;

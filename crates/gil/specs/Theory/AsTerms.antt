@@ -69,6 +69,8 @@ explored-read :
     → as_terms x ≡ y
 unfolding as_terms waiting_on pooled as_trees
 explored-read (refused n) (refused m) stopped = refl
+explored-read (refused n) (explored v rs') h = elim h [ ]
+explored-read (explored w rs) (refused m) h = elim h [ ]
 explored-read (explored w rs) (explored v rs') (exploring k hs nil) = ap₂ explored k (rows-read w rs rs' hs)
 
 pub table-read : (p : Program) (budget most : ℕ) → as_terms (table p budget most) ≡ explore (trees counted) p budget most []

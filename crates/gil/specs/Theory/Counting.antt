@@ -32,6 +32,7 @@ module _ {A : Type 0} where
   all_append (cons a p) q = cons a (all_append p q)
 
   pub all-at : {P : A → Type 0} {l : List A} {k : ℕ} {a : A} → All P l → Stands k a l → P a
+  all-at nil s = elim s [ ]
   all-at (cons h hs) here = h
   all-at (cons h hs) (further s) = all-at hs s
 

@@ -31,6 +31,7 @@ record Beside {A B : Type 0} (Q : A → B → Type 0) (k : ℕ) (a : A) (l : Lis
 
 module _ {A B : Type 0} {Q : A → B → Type 0} where
   beside : {xs : List A} {ys : List B} {k : ℕ} {a : A} → Each Q xs ys → Stands k a xs → Beside Q k a ys
+  beside nil s = elim s [ ]
   beside (cons {b} q qs) here = record { other = b; stands = here; related = q }
   beside (cons q qs) (further s) = let h = beside qs s in record { other = h.other; stands = further h.stands; related = h.related }
 
