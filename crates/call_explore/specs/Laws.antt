@@ -9,7 +9,7 @@ use Rattle.gil.specs.Pool.{Pool, Ref}
 use Rattle.gil.specs.Pool as Pools
 use Rattle.gil.specs.Calls.{first_of, wrong_budgets, TableAnswer, tables_after, explore_on}
 use Rattle.gil.specs.Numbers.{most_steps, most_branches, table_length, pool_length}
-use Rattle.gil.specs.Theory.Given.{budgets_small}
+use Rattle.gil.proofs.Theory.Given.{budgets_small}
 use Rattle.machine_code.specs.Code.{program_words}
 use Rattle.machine_code.specs.WellFormed.{WellFormed}
 use Rattle.machine_code.specs.Accepted.{accepted_well_formed}

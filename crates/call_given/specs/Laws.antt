@@ -8,7 +8,7 @@ use Rattle.gil.specs.Names.{Program, Checked, refused, accepted, check_text, tes
 use Rattle.gil.specs.Numbers.{most_bytes, for_length, for_form, for_limits, for_names, for_jump, for_end, table_length, pool_length, inputs_length}
 use Rattle.gil.specs.Layout.{input_words}
 use Rattle.gil.specs.Calls.{first_of, wrong_inputs, text_answer, check_call}
-use Rattle.gil.specs.Theory.Tests.{chosen}
+use Rattle.gil.proofs.Theory.Tests.{chosen}
 use Rattle.machine_code.specs.Code.{program_words}
 use Rattle.machine_code.specs.Accepted.Lists.{or_false}
 use Rattle.table_locate.specs.Laws.Inputs.{Bytes}

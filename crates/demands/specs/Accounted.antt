@@ -11,8 +11,8 @@ use Rattle.gil.specs.Rows.{Row}
 use Rattle.gil.specs.Explore.{explored}
 use Rattle.gil.specs.Pool.{Ref, Pool, table, value_of, pool_values, meets, placed}
 use Rattle.gil.specs.Accounts.{put_in, Stands}
-use Rattle.gil.specs.Demand3.{of_the_table}
-use Rattle.gil.specs.Theory.Tests.{no_false}
+use Rattle.gil.proofs.Demand3.{of_the_table}
+use Rattle.gil.proofs.Theory.Tests.{no_false}
 use Rattle.gil.specs.Numbers.{most_steps, for_budgets, first_row, table_length, pool_length, answer_length, inputs_length}
 use Rattle.gil.specs.Layout.{table_bytes, pool_bytes, answer_bytes, input_words}
 use Rattle.gil.specs.Calls as Calls

@@ -12,7 +12,7 @@ use Rattle.gil.specs.Rows.{Path, Row, cut_for, steps}
 use Rattle.gil.specs.Explore.{explored, exploring}
 use Rattle.gil.specs.Pool.{Ref, Pool, table, value_of, pool_values, meets}
 use Rattle.gil.specs.Accounts.{put_in, Stands, Accounts, exploration_after}
-use Rattle.gil.specs.Demand3.{after_every_command}
+use Rattle.gil.proofs.Demand3.{after_every_command}
 use Rattle.gil.specs.Numbers.{answer_length, inputs_length}
 use Rattle.gil.specs.Layout.{table_bytes, pool_bytes, answer_bytes, input_words}
 use Rattle.gil.specs.Calls as Calls

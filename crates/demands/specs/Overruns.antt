@@ -12,8 +12,8 @@ use Rattle.gil.specs.Explore as Explore
 use Rattle.gil.specs.Explore.{Turn, finishes, goes, forks, Explored, explored, Exploring, stopped, exploring, finish, waiting_on, on_turn, overfull, after_move, advance, after_commands}
 use Rattle.gil.specs.Pool.{Ref, Pool, pooled, table}
 use Rattle.gil.specs.Accounts.{exploration_after}
-use Rattle.gil.specs.Demand3.{ends-at_the_table}
-use Rattle.gil.specs.Theory.Tests.{chosen}
+use Rattle.gil.proofs.Demand3.{ends-at_the_table}
+use Rattle.gil.proofs.Theory.Tests.{chosen}
 use Rattle.demands.specs.Reasons.{terms_after, turn_after, Overruns, row_of_cut, row_of_command, term_of_command, Overrun, after}
 
 module _ (p : Program) (budget most : ℕ) where

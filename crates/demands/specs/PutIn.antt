@@ -16,7 +16,7 @@ use Rattle.gil.specs.Pool.{Ref, numberTerm, booleanTerm, place_in, Pool, value_o
 use Rattle.gil.specs.Accounts as Accounts
 use Rattle.gil.specs.Numbers.{as_returned, as_failed, as_cut, head_room, conditions_room, variables_room, cells_room}
 use Rattle.gil.specs.Layout.{word_bytes, row_bytes, answer_bytes, room, parts_words, bit, constant_words, value_words, variable_words, cell_words, end_words, outcome_words, head_words, row_parts, row_words, reason_code, ref_tag, no_number}
-use Rattle.gil.specs.Theory.Gathered.{gather_append, length-gather-each}
+use Rattle.gil.proofs.Theory.Gathered.{gather_append, length-gather-each}
 use Rattle.machine_code.specs.WellFormed as WellFormed
 use Rattle.machine_code.specs.WellFormed.{Each}
 use Rattle.machine_values.specs.Mirror.{truth_word}

@@ -10,9 +10,9 @@ use Rattle.gil.specs.Rows.{Row}
 use Rattle.gil.specs.Explore as Explore
 use Rattle.gil.specs.Explore.{Explored, explored}
 use Rattle.gil.specs.Pool.{Ref, Pool, table, placed}
-use Rattle.gil.specs.Demand3.{of_the_table}
-use Rattle.gil.specs.Theory.Tests.{no_false}
-use Rattle.gil.specs.Theory.Given.{budgets_small}
+use Rattle.gil.proofs.Demand3.{of_the_table}
+use Rattle.gil.proofs.Theory.Tests.{no_false}
+use Rattle.gil.proofs.Theory.Given.{budgets_small}
 use Rattle.gil.specs.Plain.{plain_run}
 use Rattle.gil.specs.Numbers.{for_budgets, for_lists, for_length, for_end, for_rows, for_terms, last_refusal, first_row, table_length, pool_length, answer_length}
 use Rattle.gil.specs.Layout.{table_bytes, pool_bytes, answer_bytes, input_words}

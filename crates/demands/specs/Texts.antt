@@ -10,7 +10,7 @@ use Rattle.gil.specs.Numbers.{most_bytes, for_length, for_form, for_limits, for_
 use Rattle.gil.specs.Tree.{Proc, Name}
 use Rattle.gil.specs.Reading.{Read, faulty, read, procedures}
 use Rattle.gil.specs.Names.{Program, Checked, refused, accepted, over_limits, wrong_names, wrong_jump, wrong_end, refused_if, tested, check_text}
-use Rattle.gil.specs.Theory.Tests.{chosen, no_false}
+use Rattle.gil.proofs.Theory.Tests.{chosen, no_false}
 use Rattle.demands.specs.Reasons.{TextReason, too_long, not_of_the_form, over_aLimit, wrong_name, jumps_past, ends_open}
 use Rattle.demands.specs.Orders.{Lowest}
 

@@ -17,9 +17,9 @@ use Rattle.gil.specs.Explore.{Explored, explored, begin, after_commands}
 use Rattle.gil.specs.Values.{Constant}
 use Rattle.gil.specs.Pool.{Ref, place_in, Pool, pooled, table, value_of}
 use Rattle.gil.specs.Accounts.{put_end, put_variable, row_with, put_outcome, put_in, Stands, here, further, Accounts, exploration_after}
-use Rattle.gil.specs.Demand3.{after_every_command}
+use Rattle.gil.proofs.Demand3.{after_every_command}
 use Rattle.gil.specs.Plain as Plain
-use Rattle.gil.specs.Theory.Tests.{no_false, and_left, and_right}
+use Rattle.gil.proofs.Theory.Tests.{no_false, and_left, and_right}
 use Rattle.gil.specs.Numbers.{table_length, pool_length, answer_length, inputs_length, heading_length, row_length, for_terms}
 use Rattle.gil.specs.Layout.{word_bytes, row_bytes, room, constant_words, value_words, reason_code, end_words, outcome_words, head_words, parts_words, row_parts, row_words, ref_tag, table_bytes, pool_bytes, answer_bytes, input_words}
 use Rattle.gil.specs.Calls as Calls

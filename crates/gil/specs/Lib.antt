@@ -14,6 +14,4 @@ pub mod Calls
 pub mod Promises
 pub mod Printed
 pub mod Accounts
-pub mod Theory
-pub mod Demand3
 pub mod Cases

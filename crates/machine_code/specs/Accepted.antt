@@ -8,7 +8,7 @@ use Rattle.gil.specs.Text.{bytes}
 use Rattle.gil.specs.Tree.{Cmd, Proc, Name}
 use Rattle.gil.specs.Reading.{Read, read, procedures}
 use Rattle.gil.specs.Names.{any, gather, has, place_of, cmd_properties, cmd_calls, proc_vars, properties, proc_names, over_limits, repeated, wrong_names, wrong_jump, wrong_end, Program, number_proc, number_program, Checked, refused, accepted, refused_if, tested, check_text}
-use Rattle.gil.specs.Theory.Tests.{chosen}
+use Rattle.gil.proofs.Theory.Tests.{chosen}
 use Rattle.machine_code.specs.Code.{all_commands, nodes_room}
 use Rattle.machine_code.specs.WellFormed.{Each, WellFormed}
 use Rattle.machine_code.specs.Accepted.Lists.{or_false, each_to, each_both, each_map, each-gather, none_passes, total}

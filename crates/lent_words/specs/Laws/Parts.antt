@@ -6,7 +6,7 @@ use Rattle.std.proofs.lemmas.List.{replicate-append-replicate}
 use Rattle.std.proofs.Math.ListN.{get_or-append}
 use Rattle.gil.specs.Names.{gather}
 use Rattle.gil.specs.Layout.{word_bytes, room, Part, in_room, parts_words}
-use Rattle.gil.specs.Theory.Gathered.{gather_append}
+use Rattle.gil.proofs.Theory.Gathered.{gather_append}
 use Rattle.lent_words.specs.Mirror.{put_words}
 use Rattle.lent_words.specs.Laws.Reads as reads
 use Rattle.lent_words.specs.Laws.Reads.{Words}

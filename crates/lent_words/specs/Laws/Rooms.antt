@@ -7,7 +7,7 @@ use Rattle.std.proofs.Math.ListN.{get_or-append}
 use Rattle.std.proofs.Math.Seq.{take-append_seam, drop-append-add}
 use Rattle.gil.specs.Names.{gather}
 use Rattle.gil.specs.Layout.{word_bytes, room}
-use Rattle.gil.specs.Theory.Gathered.{gather_append, length-gather-each}
+use Rattle.gil.proofs.Theory.Gathered.{gather_append, length-gather-each}
 use Rattle.lent_words.specs.Mirror.{put_word, put_words}
 use Rattle.lent_words.specs.Laws.Words.{put_word_in}
 use Rattle.lent_words.specs.Laws.Reads.{Words, none, more, length-word}

@@ -11,7 +11,7 @@ use Rattle.gil.specs.Machine.{Cell, returned, failed, vanished, error}
 use Rattle.gil.specs.Rows.{Condition, Outcome, ended, cut, Row}
 use Rattle.gil.specs.Pool.{Ref, place_in, Pool}
 use Rattle.gil.specs.Layout.{ref_tag, node_words, node_bytes, constant_words, value_words, variable_words, cell_words, condition_words, end_words, outcome_words, head_numbers, head_words, row_parts, row_words, row_bytes}
-use Rattle.gil.specs.Theory.Gathered.{length-gather-each}
+use Rattle.gil.proofs.Theory.Gathered.{length-gather-each}
 use Rattle.lent_words.specs.Laws.Rooms.{length-words, get_d_behind}
 use Rattle.lent_words.specs.Laws.Parts as parts
 use Rattle.lent_words.specs.Laws.Parts.{Parts, Fits, empty-fits, words_before, sizes, parts-long, part-word}

@@ -12,7 +12,7 @@ use Rattle.std.proofs.Math.ListN.{get_or, take, drop, take-append-drop}
 use Rattle.std.proofs.lemmas.List.{length-map}
 use Rattle.std.proofs.Math.Seq.{drop-cons, take-suc-set, take-set-lt, drop-set-lt, append_snoc}
 use borrow.Author.Tests.{ltb-true, ltb-false, eq-eqb, ne_eqb, lt-ltb, le-ltb, le-leb, lt-leb}
-use Rattle.gil.specs.Theory.Tests.{chosen, no_false, and_left, and_right}
+use Rattle.gil.proofs.Theory.Tests.{chosen, no_false, and_left, and_right}
 use Rattle.gil.specs.Machine as Machine
 use Rattle.gil.specs.Machine.{is_at, is_before, cell_at, without_cells}
 use Rattle.machine_cells.specs.declared.Cell.{Cell}

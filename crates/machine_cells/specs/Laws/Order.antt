@@ -9,7 +9,7 @@ use Rattle.std.proofs.Math.Option.{none, some}
 use Rattle.std.proofs.Math.Dec.{ltb, eqb}
 use borrow.Author.Tests.{ltb-true, ltb-false, eqb-true, eqb-false, lt-ltb, eq-eqb, ne_eqb}
 use Rattle.gil.specs.Values.{Value}
-use Rattle.gil.specs.Theory.Tests.{chosen, no_false, both}
+use Rattle.gil.proofs.Theory.Tests.{chosen, no_false, both}
 use Rattle.gil.specs.Machine.{Cell, is_at, is_before, cell_at, put_cell, without_cells}
 
 -- the place (l, q) comes before every cell

@@ -7,7 +7,7 @@ use Rattle.std.proofs.lemmas.List.{map-append, length-map}
 use Rattle.std.proofs.Math.Option.{none}
 use Rattle.std.proofs.Math.Seq.{take-append-add, drop-append_seam, take-set-lt}
 use Rattle.gil.specs.Values.{Value, term}
-use Rattle.gil.specs.Theory.Tests.{no_false}
+use Rattle.gil.proofs.Theory.Tests.{no_false}
 use Rattle.gil.specs.Machine as Machine
 use Rattle.gil.specs.Machine.{is_at, is_before, cell_at, put_cell}
 use Rattle.machine_cells.specs.declared.Cell.{Cell}

@@ -4,7 +4,7 @@ use Rattle.std.specs.Prelude.{ℕ, zero, suc, ◌+◌, ◌-◌, ◌<◌, ◌≤�
 use Rattle.std.proofs.Math.Bool.{true, false}
 use Rattle.std.proofs.Math.Path.{refl}
 use Rattle.std.proofs.Common.{sym, ◌∙◌, ap, subst, arith, ltb-true, ltb-false}
-use Rattle.gil.specs.Theory.Tests.{no_false}
+use Rattle.gil.proofs.Theory.Tests.{no_false}
 use Rattle.gil.specs.Machine.{is_at, is_before}
 use Rattle.machine_cells.specs.declared.Cell.{Cell}
 use Rattle.machine_cells.specs.Mirror.{cell_of, no_cell, held_in, from_in, reaches, place_from, FoundAt}

@@ -5,7 +5,7 @@ use Rattle.std.proofs.Common.{arith, ap, ap₂, ◌∙◌, eqb-true, eq-eqb}
 use Rattle.gil.specs.Text.{same}
 use Rattle.gil.specs.Tree.{Name}
 use Rattle.gil.specs.Names.{any, has, place_of, with_name, with_names, distinct}
-use Rattle.gil.specs.Theory.Tests.{chosen}
+use Rattle.gil.proofs.Theory.Tests.{chosen}
 use Rattle.machine_code.specs.WellFormed.{Each, none, more}
 use Rattle.machine_code.specs.Accepted.Lists.{or_right, and_true, any_append}
 

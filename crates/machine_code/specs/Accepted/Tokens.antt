@@ -11,7 +11,7 @@ use Rattle.gil.specs.Text.{Token, word, property, becomes, mark, ended, Lexeme, 
 use Rattle.gil.specs.Tree.{Name}
 use Rattle.gil.specs.Reading.{as_word}
 use Rattle.gil.specs.Names.{any}
-use Rattle.gil.specs.Theory.Tests.{chosen}
+use Rattle.gil.proofs.Theory.Tests.{chosen}
 use Rattle.machine_code.specs.Code.{number_words}
 use Rattle.machine_code.specs.WellFormed.{Each, none, more}
 use Rattle.machine_code.specs.Accepted.Lists.{and_true, none_passes}

@@ -13,7 +13,7 @@ use Rattle.gil.specs.Tree.{Cmd, assign, ifgoto, call, lookup, mutate, dispose, u
 use Rattle.gil.specs.Names.{gather, Procedure, Program}
 use Rattle.gil.specs.Layout.{room}
 use Rattle.gil.specs.Machine.{procedure_at}
-use Rattle.gil.specs.Theory.Gathered.{gather_append}
+use Rattle.gil.proofs.Theory.Gathered.{gather_append}
 use Rattle.lent_words.specs.Laws.Rooms.{length-room}
 use Rattle.machine_code.specs.Code.{cmd_nodes, cmd_words, command_words, procedure_words, all_commands, program_words, code_words, nodes_at, commands_room, nodes_room, procedures_room, commands_at}
 use Rattle.machine_code.specs.WellFormed.{Each, none, more, CmdFits, ProcedureFits, WellFormed}

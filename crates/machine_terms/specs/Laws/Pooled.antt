@@ -13,7 +13,7 @@ use Rattle.gil.specs.Names.{gather}
 use Rattle.gil.specs.Values.{number, boolean, location, Value, const, term, Node, input, neg, bin, op_gives_number, gives_number}
 use Rattle.gil.specs.Pool.{Ref, numberTerm, booleanTerm, ref_sort, place_in, Pool, ref_to, added, pooled}
 use Rattle.gil.specs.Layout.{word_bytes, room, bit, constant_words, value_words, ref_tag, op_code, node_words, node_bytes}
-use Rattle.gil.specs.Theory.Gathered.{gather_append}
+use Rattle.gil.proofs.Theory.Gathered.{gather_append}
 use Rattle.lent_words.specs.Laws.Row.{node-long, nodes-long}
 use Rattle.lent_words.specs.Laws.Rooms.{length-words}
 use Rattle.machine_code.specs.Code.{op_word, equal_node}

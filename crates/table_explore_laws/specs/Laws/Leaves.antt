@@ -14,8 +14,8 @@ use Rattle.gil.specs.Pool.{Ref, Pool, pooled, table}
 use Rattle.gil.specs.Numbers.{most_steps, most_branches, most_terms, table_length, pool_length}
 use Rattle.gil.specs.Layout.{room, node_bytes, pool_bytes, table_bytes}
 use Rattle.gil.specs.Calls.{TableAnswer, tables_after, succeeds}
-use Rattle.gil.specs.Theory.Relation.{grows_not, start_rel}
-use Rattle.gil.specs.Theory.PoolTree.{as_trees}
+use Rattle.gil.proofs.Theory.Relation.{grows_not, start_rel}
+use Rattle.gil.proofs.Theory.PoolTree.{as_trees}
 use Rattle.machine_code.specs.Code.{program_words}
 use Rattle.machine_code.specs.WellFormed.{WellFormed}
 use Rattle.machine_code.specs.Mirror.{if?}

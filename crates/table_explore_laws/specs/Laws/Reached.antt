@@ -16,9 +16,9 @@ use Rattle.gil.specs.Rows.{Condition, Path, Row, row_of}
 use Rattle.gil.specs.Explore.{Explored, refused, explored, finish}
 use Rattle.gil.specs.Pool.{pooled, place_in}
 use Rattle.gil.specs.Layout.{bit}
-use Rattle.gil.specs.Theory.Tests.{chosen}
-use Rattle.gil.specs.Theory.Relation.{Grows, grows-on}
-use Rattle.gil.specs.Theory.PoolTree.{as_trees}
+use Rattle.gil.proofs.Theory.Tests.{chosen}
+use Rattle.gil.proofs.Theory.Relation.{Grows, grows-on}
+use Rattle.gil.proofs.Theory.PoolTree.{as_trees}
 use Rattle.machine_code.specs.Code.{program_words}
 use Rattle.machine_code.specs.WellFormed.{WellFormed}
 use Rattle.machine_code.specs.Mirror.{if?}

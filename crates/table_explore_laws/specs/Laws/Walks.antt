@@ -16,10 +16,10 @@ use Rattle.gil.specs.Explore as Explore
 use Rattle.gil.specs.Explore.{Explored, refused, explored, branched, turned, walk_turn, overfull, turn_in, walk_move, walk}
 use Rattle.gil.specs.Pool.{pooled}
 use Rattle.gil.specs.Layout.{bit, reason_code}
-use Rattle.gil.specs.Theory.Tests.{chosen}
-use Rattle.gil.specs.Theory.Trees.{trees}
-use Rattle.gil.specs.Theory.Relation.{Nexts, forks, is_true, is_false, Grows, grows_not, grows-on, grow-state}
-use Rattle.gil.specs.Theory.PoolTree.{counted, as_trees}
+use Rattle.gil.proofs.Theory.Tests.{chosen}
+use Rattle.gil.proofs.Theory.Trees.{trees}
+use Rattle.gil.proofs.Theory.Relation.{Nexts, forks, is_true, is_false, Grows, grows_not, grows-on, grow-state}
+use Rattle.gil.proofs.Theory.PoolTree.{counted, as_trees}
 use Rattle.machine_code.specs.Code.{program_words}
 use Rattle.machine_code.specs.WellFormed.{WellFormed}
 use Rattle.machine_code.specs.Mirror.{if?}

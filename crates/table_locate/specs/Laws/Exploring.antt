@@ -18,7 +18,7 @@ use Rattle.gil.specs.Machine.{State, Next, Result, procedure_at, unused, start, 
 use Rattle.gil.specs.Rows.{steps, Outcome, Path, Row, row_of, cut_for}
 use Rattle.gil.specs.Explore.{Turn, finishes, goes, forks, stepped, branched, turned, Explored, refused, explored, finish, walk_turn, overfull, turn_in, begin, walk_move, walk, explore}
 use Rattle.gil.specs.Pool.{Ref, ref_sort, Pool, pooled, table}
-use Rattle.gil.specs.Theory.Tests.{chosen}
+use Rattle.gil.proofs.Theory.Tests.{chosen}
 use Rattle.machine_code.specs.WellFormed as WellFormed
 use Rattle.machine_code.specs.WellFormed.{Each, ProcedureFits, WellFormed}
 use Rattle.machine_code.specs.Accepted.Lists.{each_to}

@@ -17,7 +17,7 @@ use Rattle.gil.specs.Layout.{word_bytes, room, bit, reason_code, variable_words,
 use Rattle.machine_code.specs.WellFormed as WellFormed
 use Rattle.machine_code.specs.WellFormed.{Each}
 use Rattle.machine_code.specs.Accepted.Lists.{each_append}
-use Rattle.gil.specs.Theory.Gathered.{gather_append}
+use Rattle.gil.proofs.Theory.Gathered.{gather_append}
 use Rattle.lent_words.specs.Mirror.{word_at, at_most}
 use Rattle.lent_words.specs.Laws.Words.{all_of}
 use Rattle.lent_words.specs.Laws.Reads.{Words, none, more, word_at-words}

@@ -17,7 +17,7 @@ use Rattle.lent_words.specs.Mirror.{word_at}
 use Rattle.lent_words.specs.Laws.Reads.{Words, none, more, word_at-words}
 use Rattle.lent_words.specs.Laws.Rooms.{length-words, words_append}
 use Rattle.lent_words.specs.Laws.Row.{value_two, node-five, nodes-long}
-use Rattle.gil.specs.Theory.Gathered.{gather_append}
+use Rattle.gil.proofs.Theory.Gathered.{gather_append}
 use Rattle.machine_values.specs.Laws.{ConstAs, a_number, a_truth, a_location, low-number, low-location, low-truth, work_law, not_law}
 use Rattle.table_locate.specs.Mirror.{value_word, operand_word, op_value, input_value, term_of, term_value, values_to}
 use Rattle.table_locate.specs.Steps.{values_more, values_start}

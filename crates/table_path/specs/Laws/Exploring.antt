@@ -11,11 +11,11 @@ use Rattle.gil.specs.Machine.{Model, State, Moved, move, on}
 use Rattle.gil.specs.Rows.{Condition, Path, Row}
 use Rattle.gil.specs.Explore.{Explored, explored, stepped, turned, walk_turn, overfull, turn_in, walk_move, walk}
 use Rattle.gil.specs.Pool.{pooled}
-use Rattle.gil.specs.Theory.Trees.{trees}
-use Rattle.gil.specs.Theory.ReadBack.{trees_of}
-use Rattle.gil.specs.Theory.Relation.{States, Nexts, goes, stops, forks, is_true, is_false, Grows, grows-on, Moves, move_rel}
-use Rattle.gil.specs.Theory.Together.{alongside_laws}
-use Rattle.gil.specs.Theory.PoolTree.{counted, as_trees, as_trees-step}
+use Rattle.gil.proofs.Theory.Trees.{trees}
+use Rattle.gil.proofs.Theory.ReadBack.{trees_of}
+use Rattle.gil.proofs.Theory.Relation.{States, Nexts, goes, stops, forks, is_true, is_false, Grows, grows-on, Moves, move_rel}
+use Rattle.gil.proofs.Theory.Together.{alongside_laws}
+use Rattle.gil.proofs.Theory.PoolTree.{counted, as_trees, as_trees-step}
 use Rattle.machine_code.specs.WellFormed.{WellFormed}
 use Rattle.machine_terms.specs.Laws.Pooled.{pooled_engine}
 use Rattle.machine_laws.specs.Laws.Engine.{next_fits}

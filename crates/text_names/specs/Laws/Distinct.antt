@@ -10,7 +10,7 @@ use native.Mathlib.Omega.{arith}
 use Rattle.gil.specs.Text.{same}
 use Rattle.gil.specs.Tree.{Name}
 use Rattle.gil.specs.Names.{any, has, with_name, with_names, repeated}
-use Rattle.gil.specs.Theory.Tests.{no_false}
+use Rattle.gil.proofs.Theory.Tests.{no_false}
 use Rattle.text_words.specs.Laws.Words.{same-is}
 use Rattle.text_names.specs.Laws.Lists.{with_name_old, with_name-new, same_self}
 

@@ -8,7 +8,7 @@ use Rattle.gil.specs.Tree.{Proc, Name}
 use Rattle.gil.specs.Names.{gather, place_of, rename_cmd, proc_vars, Procedure, number_proc}
 use Rattle.machine_code.specs.Code.{cmd_nodes, procedure_words, procedure_size}
 use Rattle.gil.specs.Numbers.{most_procedures, most_properties, most_variables}
-use Rattle.gil.specs.Theory.Gathered.{gather_append}
+use Rattle.gil.proofs.Theory.Gathered.{gather_append}
 use Rattle.text_names.specs.Mirror.Tables.{number_in}
 use Rattle.text_values.specs.Mirror.{numbered}
 use Rattle.text_procedures.specs.Mirror.Lists.{body_size}

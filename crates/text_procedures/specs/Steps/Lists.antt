@@ -13,7 +13,7 @@ use Rattle.gil.specs.Names.{gather, cmd_vars, cmd_properties, cmd_calls, is_end,
 use Rattle.machine_code.specs.Code.{cmd_nodes, cmd_words, command_words, code_words, nodes_at, command_at}
 use Rattle.machine_code.specs.Accepted.Sizes.{cmd_size}
 use Rattle.gil.specs.Numbers.{most_commands, most_procedures, most_properties, most_variables}
-use Rattle.gil.specs.Theory.Gathered.{gather_append, gather-last}
+use Rattle.gil.proofs.Theory.Gathered.{gather_append, gather-last}
 use Rattle.text_names.specs.Mirror.Tables.{Kept, Grows}
 use Rattle.text_names.specs.Laws.Lists.{with_names-append}
 use Rattle.text_names.specs.Laws.Tables.{grows_none, grows_then}

@@ -14,7 +14,7 @@ use Rattle.gil.specs.Reading.{Read, after, ◌>>=◌, ◌>>◌, is_ended, the_ma
 use Rattle.gil.specs.Names.{any, gather, cmd_vars, cmd_properties, cmd_calls, jumps_past, with_name, with_names, distinct, proc_vars, Procedure}
 use Rattle.machine_code.specs.Code.{procedure_words, code_words, nodes_at, procedure_at}
 use Rattle.gil.specs.Numbers.{most_commands, most_procedures, most_properties, most_variables}
-use Rattle.gil.specs.Theory.Gathered.{gather-last}
+use Rattle.gil.proofs.Theory.Gathered.{gather-last}
 use Rattle.text_words.specs.Mirror.Kinds.{ended_token}
 use Rattle.text_tokens.specs.Mirror.Seen.{Found}
 use Rattle.text_names.specs.Mirror.Sizes.{count_at, names_words}

@@ -6,7 +6,7 @@ use Rattle.gil.specs.Tree.{Cmd}
 use Rattle.gil.specs.Names.{gather, Procedure}
 use Rattle.machine_code.specs.Code.{cmd_nodes, command_words, procedure_words, commands_at, nodes_at, procedures_at, command_at, procedure_at}
 use Rattle.gil.specs.Numbers.{most_commands, most_procedures}
-use Rattle.gil.specs.Theory.Gathered.{gather-last}
+use Rattle.gil.proofs.Theory.Gathered.{gather-last}
 use Rattle.text_forms.specs.Laws.Stores.{sets-append, sets_swap}
 use Rattle.text_procedures.specs.Mirror.Lists.{body_stored}
 use Rattle.text_procedures.specs.Mirror.Words.{bodies, proc_stored, program_stored}

@@ -9,7 +9,7 @@ use borrow.Author.Tests.{ne_eqb, eqb-true}
 use Rattle.gil.specs.Text.{letter, digit, in_run, span, within, property, becomes, mark, Lexeme, quoted, coloned, marked, token_from, skip_white, lexeme}
 use Rattle.gil.specs.Reading.{is_mark}
 use Rattle.gil.specs.Numbers.{most_characters}
-use Rattle.gil.specs.Theory.Tests.{no_false, both}
+use Rattle.gil.proofs.Theory.Tests.{no_false, both}
 use Rattle.text_tokens.specs.Mirror.Marks.{lone, Marked}
 use Rattle.text_tokens.specs.Steps.Seen.{found_plain, found-past}
 

@@ -2,7 +2,7 @@
 use Rattle.std.specs.Prelude.{ℕ, ◌≡◌, refl, true, List, [], ◌∷◌, eqb}
 use Rattle.std.proofs.Common.{eqb-true}
 use Rattle.gil.specs.Text.{same}
-use Rattle.gil.specs.Theory.Tests.{no_false, both}
+use Rattle.gil.proofs.Theory.Tests.{no_false, both}
 
 -- two runs that are the same are one run
 pub same-is : (a b : List ℕ) → same a b ≡ true → a ≡ b

@@ -2,7 +2,7 @@
 use Rattle.std.specs.Prelude.{ℕ, zero, suc, ◌+◌, ◌≤◌, ◌<◌, ◌≡◌, refl, Bool, true, false, ◌&&◌}
 use Rattle.std.proofs.Common.{sym, ap, ◌∙◌, arith}
 use Rattle.std.proofs.Math.Decide.{dec_le}
-use Rattle.gil.specs.Theory.Tests.{both}
+use Rattle.gil.proofs.Theory.Tests.{both}
 
 -- `p` gives `v` at every number from `low` on, `n` of them
 abbrev pub agrees : Bool → Bool → Bool

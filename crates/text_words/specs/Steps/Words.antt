@@ -11,7 +11,7 @@ use Rattle.gil.specs.Text.{kIfgoto, Word, number, u_site, i_site, reserved_words
 use Rattle.gil.specs.Numbers.{largest_number, largest_site, most_characters}
 use Rattle.text_words.specs.Mirror.Kinds.{name_token, number_token, u_site_token, i_site_token, fault_token, keys, first_key, no_number}
 use Rattle.text_words.specs.Mirror.Words.{reserved, key_of, key_at, key_kind, option, worth, word_for, Stands, a_name, a_number, a_uSite, an_iSite, a_fault, a_key, words_table, lengths_table, started_by, candidate_of}
-use Rattle.gil.specs.Theory.Tests.{no_false, both}
+use Rattle.gil.proofs.Theory.Tests.{no_false, both}
 use Rattle.text_words.specs.Laws.Words.{same-is}
 
 -- two runs compared place by place

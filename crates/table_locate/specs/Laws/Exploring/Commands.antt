@@ -15,7 +15,7 @@ use Rattle.gil.specs.Names.{gather, Procedure, Program}
 use Rattle.gil.specs.Values.{Constant, number, location, booleans, locations, sort_of, number_in, same_sort, Fit, right, wrong, unlike, fit, work, work_not, Value, const, term, Node}
 use Rattle.gil.specs.Machine.{Caller, Control, Counters, Store, Cell, Memory, Answer, State, End, Next, on, ends, fork, Result, and_then, ◌>>=◌, ◌>>◌, give, stop, must, there, sort_in, making, combine, fitted, operate, negated, negate, eval, frames, goto, onward, entered, back_to, with_input, with_location, counting, procedure_at, command_at, steer, assigned, with_memory, answered, with_cells, frame, top_store, below_top, opened, closed, returns_to, is_at, is_before, cell_at, put_cell, without_cells, the_location, jump, looked_up, written, dropped, fresh_location, fresh_input, exec}
 use Rattle.gil.specs.Pool.{Ref, numberTerm, booleanTerm, ref_sort, Pool, added, pooled}
-use Rattle.gil.specs.Theory.Tests.{chosen}
+use Rattle.gil.proofs.Theory.Tests.{chosen}
 use Rattle.machine_code.specs.Code.{all_commands}
 use Rattle.machine_code.specs.WellFormed as WellFormed
 use Rattle.machine_code.specs.WellFormed.{Each, ExprFits, CmdFits, ProcedureFits, WellFormed}

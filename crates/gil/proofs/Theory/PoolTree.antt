@@ -5,12 +5,12 @@ use Rattle.std.proofs.lemmas.List.{get_or_at}
 use Rattle.gil.specs.Values.{Value, term, Node, input, neg, bin, gives_number}
 use Rattle.gil.specs.Machine.{making}
 use Rattle.gil.specs.Pool.{Ref, ref_sort, ref_to, place_in, Pool, pooled, added, value_of, pool_values}
-use Rattle.gil.specs.Theory.Trees
-use Rattle.gil.specs.Theory.Trees.{Tree, trees, planted, tree_sort, sort_for, tree_value}
-use Rattle.gil.specs.Theory.ReadBack.{nothing, read_value, read_node, trees_of, of_length, of_append, Reads, reads-still, reads-value}
-use Rattle.gil.specs.Theory.Relation.{Relation, Values, consts, valued, terms, Acts, oks}
-use Rattle.gil.specs.Theory.Together.{Nodes, InStep}
-use Rattle.gil.specs.Theory.Together as Together
+use Rattle.gil.proofs.Theory.Trees
+use Rattle.gil.proofs.Theory.Trees.{Tree, trees, planted, tree_sort, sort_for, tree_value}
+use Rattle.gil.proofs.Theory.ReadBack.{nothing, read_value, read_node, trees_of, of_length, of_append, Reads, reads-still, reads-value}
+use Rattle.gil.proofs.Theory.Relation.{Relation, Values, consts, valued, terms, Acts, oks}
+use Rattle.gil.proofs.Theory.Together.{Nodes, InStep}
+use Rattle.gil.proofs.Theory.Together as Together
 
 -- each term made counts
 abbrev pub counted : List Tree → ℕ

@@ -9,14 +9,14 @@ use Rattle.gil.specs.Rows.{Condition, Outcome, ended, cut, Row, row_of}
 use Rattle.gil.specs.Explore.{Explored, refused, explored, waiting_on, explore}
 use Rattle.gil.specs.Pool.{Ref, place_in, Pool, pooled, table}
 use Rattle.gil.specs.Accounts.{row_with, put_variable, put_cell, put_end}
-use Rattle.gil.specs.Theory.Trees.{Tree, trees}
-use Rattle.gil.specs.Theory.Relation.{Each, nil, cons, memories, states}
-use Rattle.gil.specs.Theory.Together.{Conditions, condition, Outcomes, path, RowsOf, row, Explorings, stopped, exploring, commands_rel}
-use Rattle.gil.specs.Theory.Together as Together
-use Rattle.gil.specs.Theory.PutIn.{put-store, put-cells, put-end, same_store, same-cells, same_end, parts}
-use Rattle.gil.specs.Theory.PoolTree.{counted, as_trees, as_trees-step, value_read}
-use Rattle.gil.specs.Theory.ReadBack.{nothing, read_value, trees_of, trees_from}
-use Rattle.gil.specs.Theory.Ends.{ends_in}
+use Rattle.gil.proofs.Theory.Trees.{Tree, trees}
+use Rattle.gil.proofs.Theory.Relation.{Each, nil, cons, memories, states}
+use Rattle.gil.proofs.Theory.Together.{Conditions, condition, Outcomes, path, RowsOf, row, Explorings, stopped, exploring, commands_rel}
+use Rattle.gil.proofs.Theory.Together as Together
+use Rattle.gil.proofs.Theory.PutIn.{put-store, put-cells, put-end, same_store, same-cells, same_end, parts}
+use Rattle.gil.proofs.Theory.PoolTree.{counted, as_trees, as_trees-step, value_read}
+use Rattle.gil.proofs.Theory.ReadBack.{nothing, read_value, trees_of, trees_from}
+use Rattle.gil.proofs.Theory.Ends.{ends_in}
 
 module _ (ts : List Tree) where
   unfoldable pub read_condition : Condition Ref → Condition Tree

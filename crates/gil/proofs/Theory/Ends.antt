@@ -12,7 +12,7 @@ use Rattle.gil.specs.Names.{Program}
 use Rattle.gil.specs.Machine.{Model, Next, on, ends, fork, Moved, move}
 use Rattle.gil.specs.Rows.{Path, Row, cut_for, steps}
 use Rattle.gil.specs.Explore.{stepped, branched, turned, Explored, refused, explored, Exploring, stopped, exploring, finish, waiting_on, on_turn, walk_turn, overfull, turn_in, after_move, advance, begin, after_commands, walk_move, walk, explore}
-use Rattle.gil.specs.Theory.Tests.{either, chosen}
+use Rattle.gil.proofs.Theory.Tests.{either, chosen}
 
 module _ (M : Model) (p : Program) (budget most : ℕ) where
   -- what the waiting branches come to, depth first

@@ -13,15 +13,15 @@ use Rattle.gil.specs.Explore.{Exploring, explored, waiting_on, after_commands}
 use Rattle.gil.specs.Explore as Explore
 use Rattle.gil.specs.Pool.{Ref, Pool, pooled, table, value_of, pool_values, meets, place_among, placed}
 use Rattle.gil.specs.Accounts.{Stands, here, further, Accounted, Accounts, exploration_after}
-use Rattle.gil.specs.Theory.Tests.{chosen}
-use Rattle.gil.specs.Theory.Trees.{Tree, trees, tree_value}
-use Rattle.gil.specs.Theory.Relation.{Each, nil, cons, each_append, Relation, Values}
-use Rattle.gil.specs.Theory.Together.{Conditions, path, RowsOf, row, Explorings, exploring, cuts_rel, commands_rel}
-use Rattle.gil.specs.Theory.PutIn.{holds, holds_rel, put-row}
-use Rattle.gil.specs.Theory.PoolTree.{counted, as_trees, as_trees-step, same-value}
-use Rattle.gil.specs.Theory.ReadBack.{trees_of, trees_from}
-use Rattle.gil.specs.Theory.Exactly.{tree_accounted}
-use Rattle.gil.specs.Theory.Ends.{ends_in}
+use Rattle.gil.proofs.Theory.Tests.{chosen}
+use Rattle.gil.proofs.Theory.Trees.{Tree, trees, tree_value}
+use Rattle.gil.proofs.Theory.Relation.{Each, nil, cons, each_append, Relation, Values}
+use Rattle.gil.proofs.Theory.Together.{Conditions, path, RowsOf, row, Explorings, exploring, cuts_rel, commands_rel}
+use Rattle.gil.proofs.Theory.PutIn.{holds, holds_rel, put-row}
+use Rattle.gil.proofs.Theory.PoolTree.{counted, as_trees, as_trees-step, same-value}
+use Rattle.gil.proofs.Theory.ReadBack.{trees_of, trees_from}
+use Rattle.gil.proofs.Theory.Exactly.{tree_accounted}
+use Rattle.gil.proofs.Theory.Ends.{ends_in}
 
 -- what stands at a place of one of two lists that are related one by one
 record Beside {A B : Type 0} (Q : A → B → Type 0) (k : ℕ) (a : A) (l : List B) : Type 0 where

@@ -11,9 +11,9 @@ use Rattle.gil.specs.Rows.{Condition, Reason, Outcome, Path, Row, row_of, cut_fo
 use Rattle.gil.specs.Rows as Rows
 use Rattle.gil.specs.Explore.{Turn, Exploring, stepped, branched, turned, finish, waiting_on, on_turn, overfull, turn_in, after_move, advance, begin, after_commands}
 use Rattle.gil.specs.Explore as Explore
-use Rattle.gil.specs.Theory.Tests.{either, either_of}
-use Rattle.gil.specs.Theory.Relation.{Each, nil, cons, Values, consts, valued, terms, Acts, give_rel, each-length, each_append, each_map, Relation, Laws, States, Ends, Nexts, Grows, Moves, grow-value, grow-state, move_rel, start_rel}
-use Rattle.gil.specs.Theory.Relation as Relation
+use Rattle.gil.proofs.Theory.Tests.{either, either_of}
+use Rattle.gil.proofs.Theory.Relation.{Each, nil, cons, Values, consts, valued, terms, Acts, give_rel, each-length, each_append, each_map, Relation, Laws, States, Ends, Nexts, Grows, Moves, grow-value, grow-state, move_rel, start_rel}
+use Rattle.gil.proofs.Theory.Relation as Relation
 
 -- nodes, conditions, paths and rows, related part by part
 module _ {M N : Model} (R : Relation M N) where

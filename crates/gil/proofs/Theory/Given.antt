@@ -3,7 +3,7 @@ use Rattle.std.specs.Prelude.{ℕ, ◌≤◌, ◌≡◌, refl, Bool, true, false
 use Rattle.std.proofs.Common.{ltb-false, leb-true}
 use Rattle.gil.specs.Numbers.{most_steps, most_branches}
 use Rattle.gil.specs.Calls.{wrong_budgets}
-use Rattle.gil.specs.Theory.Tests.{no_false}
+use Rattle.gil.proofs.Theory.Tests.{no_false}
 
 pub budgets_small : (steps branches : ℕ) → wrong_budgets steps branches ≡ false → (steps ≤ most_steps) × (branches ≤ most_branches)
 unfolding wrong_budgets

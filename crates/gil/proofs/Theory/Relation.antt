@@ -14,7 +14,7 @@ use Rattle.gil.specs.Names.{Program}
 use Rattle.gil.specs.Values.{Constant, number, boolean, location, Sort, numbers, booleans, sort_of, same_sort, Fit, right, wrong, unlike, fit, Value, const, term, input}
 use Rattle.gil.specs.Machine
 use Rattle.gil.specs.Machine.{Model, Caller, Control, Counters, Store, Cell, Memory, Answer, State, End, Next, on, ends, fork, Result, ok, err, Act, Val, Moved, making, combine, negated}
-use Rattle.gil.specs.Theory.Tests.{either}
+use Rattle.gil.proofs.Theory.Tests.{either}
 
 -- lists of one length and optional things, related one by one
 pub data Each {A B : Type 0} (R : A → B → Type 0) : List A → List B → Type 0 where

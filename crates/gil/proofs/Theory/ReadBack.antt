@@ -6,8 +6,8 @@ use mathlib.Core.List.{List, [], ◌∷◌, ◌++◌, map}
 use Rattle.std.proofs.Math.ListN.{get_or, get_or-append, get_or-map}
 use Rattle.gil.specs.Values.{Constant, boolean, truth_in, work, work_not, Value, const, term, Node, input, neg, bin}
 use Rattle.gil.specs.Pool.{Ref, ref_sort, place_in, Pool, value_of, node_value, values_from, pool_values}
-use Rattle.gil.specs.Theory.Trees
-use Rattle.gil.specs.Theory.Trees.{Tree, planted, tree_sort, value_in, operand_in, operand}
+use Rattle.gil.proofs.Theory.Trees
+use Rattle.gil.proofs.Theory.Trees.{Tree, planted, tree_sort, value_in, operand_in, operand}
 
 -- what is read where no term stands: false on all inputs, as the pool's values are past their end
 unfoldable pub nothing : Tree

@@ -8,9 +8,9 @@ use Rattle.gil.specs.Machine.{Model, Cell, Store, State, End, returned, failed, 
 use Rattle.gil.specs.Rows.{Condition, Outcome, Row, row_of}
 use Rattle.gil.specs.Plain.{ran}
 use Rattle.gil.specs.Accounts.{row_with, put_value, put_variable, put_cell, put_end, put_outcome, put_in}
-use Rattle.gil.specs.Theory.Relation.{Each, nil, cons, Perhaps, unbound, bound, Relation, Values, Stores, Cells, cell, memories, States, states, Ends}
-use Rattle.gil.specs.Theory.Relation as Relation
-use Rattle.gil.specs.Theory.Together.{Conditions, condition, Outcomes, ended, cut, path, RowsOf, row}
+use Rattle.gil.proofs.Theory.Relation.{Each, nil, cons, Perhaps, unbound, bound, Relation, Values, Stores, Cells, cell, memories, States, states, Ends}
+use Rattle.gil.proofs.Theory.Relation as Relation
+use Rattle.gil.proofs.Theory.Together.{Conditions, condition, Outcomes, ended, cut, path, RowsOf, row}
 
 -- `f` and `g` make the same values of what is related
 module _

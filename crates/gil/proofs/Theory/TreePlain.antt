@@ -11,11 +11,11 @@ use Rattle.gil.specs.Machine.{State, End, Next, on, ends, fork, move, start, mak
 use Rattle.gil.specs.Rows.{Condition, Outcome, row_of}
 use Rattle.gil.specs.Plain.{plain, known, ran}
 use Rattle.gil.specs.Accounts.{put_value, put_end, put_outcome, put_in}
-use Rattle.gil.specs.Theory.Trees
-use Rattle.gil.specs.Theory.Trees.{Tree, trees, value_in, tree_value, value-sort, value-place}
-use Rattle.gil.specs.Theory.Relation
-use Rattle.gil.specs.Theory.Relation.{Relation, Laws, Values, consts, valued, terms, States, Nexts, Acts, oks, Grows, grow-state, give_rel, start_rel, move_rel}
-use Rattle.gil.specs.Theory.PutIn.{put-value, put-end, same_end, put-state, plainly, plain_value, plain_row}
+use Rattle.gil.proofs.Theory.Trees
+use Rattle.gil.proofs.Theory.Trees.{Tree, trees, value_in, tree_value, value-sort, value-place}
+use Rattle.gil.proofs.Theory.Relation
+use Rattle.gil.proofs.Theory.Relation.{Relation, Laws, Values, consts, valued, terms, States, Nexts, Acts, oks, Grows, grow-state, give_rel, start_rel, move_rel}
+use Rattle.gil.proofs.Theory.PutIn.{put-value, put-end, same_end, put-state, plainly, plain_value, plain_row}
 
 -- where the plain run goes by one command
 unfoldable pub plain_next : List ℕ → Program → State ⊥ → Next ⊥

@@ -7,11 +7,11 @@ use Rattle.gil.specs.Rows.{Path, Row, cut_for, steps}
 use Rattle.gil.specs.Explore.{exploring, explored, waiting_on, explore}
 use Rattle.gil.specs.Pool.{Ref, Pool, table, pool_values, placed}
 use Rattle.gil.specs.Accounts.{Accounts, exploration_after}
-use Rattle.gil.specs.Theory.Trees.{value_in, trees}
-use Rattle.gil.specs.Theory.ReadBack.{trees_of, pool_values_lem}
-use Rattle.gil.specs.Theory.PoolTree.{counted}
-use Rattle.gil.specs.Theory.AsTerms.{as_terms, table-read}
-use Rattle.gil.specs.Theory.Pooled.{commands-accounted, commands-table, table-accounted, placed-only}
+use Rattle.gil.proofs.Theory.Trees.{value_in, trees}
+use Rattle.gil.proofs.Theory.ReadBack.{trees_of, pool_values_lem}
+use Rattle.gil.proofs.Theory.PoolTree.{counted}
+use Rattle.gil.proofs.Theory.AsTerms.{as_terms, table-read}
+use Rattle.gil.proofs.Theory.Pooled.{commands-accounted, commands-table, table-accounted, placed-only}
 
 -- after every command of the exploration, the finished rows with the waiting branches read as cut account for the inputs
 pub after_every_command :

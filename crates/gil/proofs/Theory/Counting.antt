@@ -6,7 +6,7 @@ use mathlib.Core.List.{List, [], ◌∷◌, ◌++◌}
 use native.Mathlib.Omega.{arith}
 use Rattle.gil.specs.Values.{same_truth}
 use Rattle.gil.specs.Accounts.{Stands, here, further}
-use Rattle.gil.specs.Theory.Tests.{no_false}
+use Rattle.gil.proofs.Theory.Tests.{no_false}
 
 -- how many of a list pass a test
 unfoldable pub one : Bool → ℕ

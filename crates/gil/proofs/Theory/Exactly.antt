@@ -15,12 +15,12 @@ use Rattle.gil.specs.Plain.{plain, ran, ran_to, run_for, plain_run}
 use Rattle.gil.specs.Explore.{stepped, branched, turned, Exploring, finish, waiting_on, on_turn, overfull, turn_in, after_move, advance, begin, after_commands}
 use Rattle.gil.specs.Explore as Explore
 use Rattle.gil.specs.Accounts.{put_value, put_end, put_outcome, put_in, Accounted}
-use Rattle.gil.specs.Theory.Tests.{chosen, no_false, and_true, and_assoc, and_left, and_right}
-use Rattle.gil.specs.Theory.Trees.{Tree, trees, value_in, tree_value}
-use Rattle.gil.specs.Theory.PutIn.{holds, same_end, plainly, plain_value}
-use Rattle.gil.specs.Theory.Counting.{one, many, many-append, All, nil, cons, all_append, all-at, only_one, halves}
-use Rattle.gil.specs.Theory.TreePlain.{Alike, alike-start, Follows, plain_next, follow, put-alike}
-use Rattle.gil.specs.Theory.TreePlain as TreePlain
+use Rattle.gil.proofs.Theory.Tests.{chosen, no_false, and_true, and_assoc, and_left, and_right}
+use Rattle.gil.proofs.Theory.Trees.{Tree, trees, value_in, tree_value}
+use Rattle.gil.proofs.Theory.PutIn.{holds, same_end, plainly, plain_value}
+use Rattle.gil.proofs.Theory.Counting.{one, many, many-append, All, nil, cons, all_append, all-at, only_one, halves}
+use Rattle.gil.proofs.Theory.TreePlain.{Alike, alike-start, Follows, plain_next, follow, put-alike}
+use Rattle.gil.proofs.Theory.TreePlain as TreePlain
 
 module _ (count : List Tree → ℕ) (p : Program) (inputs : List ℕ) where
   -- the plain run goes, after `n` steps, through a state that is this one on the inputs
