@@ -1,3 +1,4 @@
+-- `lent_words::at_most` meets its contract. Assumes nothing.
 use native.Mathlib.Omega.{arith}
 use borrow.Author.Tests.{lt-ltb, le-ltb}
 use Rattle.lent_words.specs.Mirror.{at_most}

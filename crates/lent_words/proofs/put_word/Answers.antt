@@ -1,3 +1,4 @@
+-- `words::put_word` meets its contract. Assumes nothing.
 use native.Mathlib.Omega.{arith}
 use mathlib.Core.Path.{sym, ◌∙◌}
 use Rattle.lent_words.specs.Steps.{put_word-out, stores_word}

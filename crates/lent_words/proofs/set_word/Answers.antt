@@ -1,3 +1,4 @@
+-- `words::set_word` meets its contract. Assumes nothing.
 use native.Mathlib.Omega.{arith}
 use native.Mathlib.Numerals.{towards_suc}
 use lib.ListN.{length-set}

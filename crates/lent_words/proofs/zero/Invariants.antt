@@ -1,3 +1,4 @@
+-- `words::zero` meets its contract. Assumes nothing.
 use native.Mathlib.Omega.{arith}
 use Prim.Native.Nat.{◌≤◌, ◌<◌, ◌-◌}
 use mathlib.Core.Path.{◌≡◌, refl}

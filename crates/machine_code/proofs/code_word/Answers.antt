@@ -1,3 +1,4 @@
+-- `code::code_word` meets its contract. Assumes nothing.
 use borrow.Author.Tests.{lt-ltb, le-ltb}
 use Rattle.machine_code.specs.Mirror.{code_word}
 use borrow.Author.Rules.{rules}

@@ -64,7 +64,7 @@ module _ {A : Type 0} where
   total_equal f g h (a ∷ l) = ap₂ ◌+◌ (h a) (total_equal f g h l)
 
 module _ {A B : Type 0} where
-  pub each_map : {P : B → Type 0} {l : List A} (f : A → B) → Each (λ a. P (f a)) l → Each P (map f l)
+  pub each_map : {P : B → Type 0} (f : A → B) {l : List A} → Each (λ a. P (f a)) l → Each P (map f l)
   each_map f none = none
   each_map f (more p ps) = more p (each_map f ps)
 

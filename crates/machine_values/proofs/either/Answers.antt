@@ -1,0 +1,12 @@
+-- `values::either` meets its contract. Assumes nothing.
+use Rattle.std.proofs.Common.{rules, eq-eqb, ne_eqb}
+use Rattle.machine_values.specs.Mirror.{either_word}
+use Rattle.machine_values.proofs.either.Goals as goal
+
+pub returns-then-x-eq0 : goal.returns-then-x-eq0
+unfolding either_word
+returns-then-x-eq0 c = simp (eq-eqb _ _ c.if-x-eq0.true)
+
+pub returns-else-x-eq0 : goal.returns-else-x-eq0
+unfolding either_word
+returns-else-x-eq0 c = simp (ne_eqb _ _ c.if-x-eq0.false)
