@@ -27,7 +27,7 @@ use machine_values::{Input, Location, VALUES};
 const LAST_FRAME: u32 = MOST_FRAMES - 1;
 
 // Where a path stands and what it has used up: the frame (main is the first, 0), the procedure and the number of its next command
-#[derive(Drop)]
+#[derive(Clone, Copy)]
 pub struct Control {
     pub frame: u32,
     pub inputs: Input,

@@ -10,10 +10,10 @@ use gil::numbers::{BOOLEAN_TAG, LOCATION_TAG, NUMBER_TAG};
 use machine_code::{AND_NODE, EQUAL_NODE, LESS_NODE, MINUS_NODE, PLUS_NODE};
 
 // "Uninterpreted symbols and interpreted ones are never confused": the number of a location, and that of an input
-#[derive(Drop)]
+#[derive(Clone, Copy)]
 pub struct Location(pub u32);
 
-#[derive(Drop)]
+#[derive(Clone, Copy)]
 pub struct Input(pub u32);
 
 pub const VALUES: u64 = 4294967296;
