@@ -1,0 +1,11 @@
+-- `commands::clear` meets its contract. Assumes nothing.
+use Rattle.std.proofs.Common.{◌≡◌, ℕ, ◌+◌, ◌-◌, ◌≤◌, List, sym, ap, ◌∙◌, arith, rules}
+use Rattle.machine_commands.specs.Mirror.{zeros_in}
+use Rattle.machine_commands.specs.Steps.{zeros-none, zeros-more, zeros-end}
+use Rattle.machine_commands.proofs.clear.Given as goal
+
+abbrev pub invariant-loop-i : goal.invariant-loop-i
+invariant-loop-i l = (zeros_in 16 l.base l.initial.store ≡ zeros_in (16 - l.i) (l.base + l.i) l.store) × (l.i ≤ 16)
+
+abbrev pub decreases-loop-i : goal.decreases-loop-i
+decreases-loop-i l = 16 - l.i

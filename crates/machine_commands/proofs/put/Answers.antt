@@ -1,0 +1,12 @@
+-- `commands::put` meets its contract. Assumes nothing.
+use Rattle.std.proofs.Common.{rules, le-ltb, lt-ltb}
+use Rattle.machine_commands.specs.Mirror.{put_in}
+use Rattle.machine_commands.proofs.put.Goals as goal
+
+pub returns-then-at-lt-STORE_WORDS : goal.returns-then-at-lt-STORE_WORDS
+unfolding put_in
+returns-then-at-lt-STORE_WORDS c = simp (lt-ltb _ _ c.if-at-lt-STORE_WORDS.true)
+
+pub returns-else-at-lt-STORE_WORDS : goal.returns-else-at-lt-STORE_WORDS
+unfolding put_in
+returns-else-at-lt-STORE_WORDS c = simp (le-ltb _ _ c.if-at-lt-STORE_WORDS.false)
