@@ -12,7 +12,7 @@ use Rattle.gil.specs.Numbers.{most_steps, most_branches, table_length, pool_leng
 use Rattle.gil.proofs.Theory.Given.{budgets_small}
 use Rattle.machine_code.specs.Code.{program_words}
 use Rattle.machine_code.specs.WellFormed.{WellFormed}
-use Rattle.machine_code.specs.Accepted.{accepted_well_formed}
+use Rattle.machine_code.proofs.Accepted.{accepted_well_formed}
 use Rattle.table_explore.specs.Mirror.{Explored, explore_in}
 use Rattle.table_explore_laws.specs.Laws.Leaves.{ExploredAs, explore_as}
 use Rattle.call_given.specs.Mirror.{Begun}

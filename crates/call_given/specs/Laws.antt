@@ -10,7 +10,7 @@ use Rattle.gil.specs.Layout.{input_words}
 use Rattle.gil.specs.Calls.{first_of, wrong_inputs, text_answer, check_call}
 use Rattle.gil.proofs.Theory.Tests.{chosen}
 use Rattle.machine_code.specs.Code.{program_words}
-use Rattle.machine_code.specs.Accepted.Lists.{or_false}
+use Rattle.machine_code.proofs.Accepted.Lists.{or_false}
 use Rattle.table_locate.specs.Laws.Inputs.{Bytes}
 use Rattle.call_given.specs.Mirror.{Begun, is_refused, is_read}
 

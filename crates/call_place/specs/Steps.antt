@@ -10,7 +10,7 @@ use Rattle.gil.specs.Pool.{Pool, Ref}
 use Rattle.gil.specs.Pool as Pools
 use Rattle.gil.specs.Calls.{wrong_budgets, short_tables, wrong_inputs, TableAnswer, tables_after, places_in, place_call}
 use Rattle.gil.specs.Numbers.{table_length, pool_length, first_row}
-use Rattle.machine_code.specs.Accepted.Lists.{or_false}
+use Rattle.machine_code.proofs.Accepted.Lists.{or_false}
 use Rattle.table_locate.specs.Laws.Inputs.{Bytes}
 use Rattle.table_locate.specs.Mirror.{locate_in}
 use Rattle.table_locate.specs.Laws.Place.{place_law}

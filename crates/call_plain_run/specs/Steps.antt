@@ -6,8 +6,8 @@ use mathlib.Core.List.{List}
 use Rattle.gil.specs.Calls.{wrong_budget, wrong_inputs, PlainAnswer, plain_on, plain_call}
 use Rattle.gil.specs.Numbers.{most_steps, answer_length, inputs_length}
 use Rattle.gil.specs.Layout.{input_words}
-use Rattle.machine_code.specs.Accepted.{accepted_well_formed}
-use Rattle.machine_code.specs.Accepted.Lists.{or_false}
+use Rattle.machine_code.proofs.Accepted.{accepted_well_formed}
+use Rattle.machine_code.proofs.Accepted.Lists.{or_false}
 use Rattle.table_locate.specs.Laws.Inputs.{Bytes}
 use Rattle.table_plain_run.specs.Mirror.{Answered}
 use Rattle.table_plain_run.specs.Laws.{run-leaves}

@@ -18,7 +18,7 @@ use Rattle.gil.specs.Numbers.{for_budgets, for_lists, for_length, for_end, for_r
 use Rattle.gil.specs.Layout.{table_bytes, pool_bytes, answer_bytes, input_words}
 use Rattle.gil.specs.Calls as Calls
 use Rattle.gil.specs.Calls.{first_of, TableAnswer, PlainAnswer}
-use Rattle.machine_code.specs.Accepted.{accepted_well_formed}
+use Rattle.machine_code.proofs.Accepted.{accepted_well_formed}
 use Rattle.table_locate.specs.Laws.Sound.{Sound}
 use Rattle.table_locate.specs.Laws.Exploring.{exploring-sound}
 use Rattle.demands.specs.Rows.{stands-below}

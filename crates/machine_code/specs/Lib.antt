@@ -1,4 +1,3 @@
 pub mod Code
 pub mod Mirror
 pub mod WellFormed
-pub mod Accepted

@@ -4,7 +4,7 @@ use Rattle.std.proofs.lemmas.List.Edits.{sets}
 use Rattle.gil.specs.Tree.{Expr, Cmd, return, fail, Name}
 use Rattle.gil.specs.Names.{cmd_vars, cmd_properties, cmd_calls, is_end, with_names}
 use Rattle.machine_code.specs.Code.{cmd_nodes, cmd_words, code_words, fail_kind, return_kind, command_at}
-use Rattle.machine_code.specs.Accepted.Sizes.{cmd_size}
+use Rattle.machine_code.proofs.Accepted.Sizes.{cmd_size}
 use Rattle.gil.specs.Numbers.{most_commands, most_procedures, most_properties, most_variables}
 use Rattle.text_names.specs.Mirror.Tables.{Kept, Grows}
 use Rattle.gil.specs.Reading.{Reader, ◌>>=◌, token, as_word, command_word}

@@ -5,7 +5,7 @@ use Rattle.std.proofs.lemmas.List.Edits.{sets}
 use Rattle.gil.specs.Tree.{Expr, Cmd, assign, ifgoto, call, lookup, mutate, dispose, u_sym, i_sym, return, fail, vanish, Name}
 use Rattle.gil.specs.Names.{cmd_vars, cmd_properties, cmd_calls, is_end, rename_cmd, with_names}
 use Rattle.machine_code.specs.Code.{cmd_nodes, cmd_words, code_words}
-use Rattle.machine_code.specs.Accepted.Sizes.{cmd_size}
+use Rattle.machine_code.proofs.Accepted.Sizes.{cmd_size}
 use Rattle.gil.specs.Numbers.{most_procedures, most_properties, most_variables, most_depth}
 use Rattle.text_names.specs.Mirror.Tables.{Kept, number_in, Grows}
 use Rattle.gil.specs.Reading.{the_mark, the_property, expr_deep}

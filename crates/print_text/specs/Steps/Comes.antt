@@ -14,7 +14,7 @@ use Rattle.gil.specs.Numbers.{most_steps, most_branches, table_length, pool_leng
 use Rattle.gil.specs.Layout.{table_bytes, pool_bytes}
 use Rattle.gil.specs.Calls.{wrong_budgets, short_tables, TableAnswer, tables_after, explore_on, succeeds, explore_call}
 use Rattle.gil.specs.Printed.{refusal_line, explored_text, checked_text, printed}
-use Rattle.machine_code.specs.Accepted.{accepted_well_formed}
+use Rattle.machine_code.proofs.Accepted.{accepted_well_formed}
 use Rattle.print_writing.specs.Mirror.{last_place, Wrote}
 use Rattle.print_writing.specs.Laws.{Front, whole}
 use Rattle.text_tokens.specs.Mirror.Seen.{name_at}

@@ -21,7 +21,7 @@ use Rattle.gil.specs.Pool.{Ref, ref_sort, Pool, pooled, table}
 use Rattle.gil.proofs.Theory.Tests.{chosen}
 use Rattle.machine_code.specs.WellFormed as WellFormed
 use Rattle.machine_code.specs.WellFormed.{Each, ProcedureFits, WellFormed}
-use Rattle.machine_code.specs.Accepted.Lists.{each_to}
+use Rattle.machine_code.proofs.Accepted.Lists.{each_to}
 use Rattle.table_locate.specs.Laws.Sound.{RefFits, ValueFits, fits_number, TermsFit, no_term, ConditionFits, fits_error, OutcomeFits, fits_ended, fits_cut, RowFits, Sound}
 use Rattle.table_locate.specs.Laws.Exploring.Growing.{Grows, same-pool, then_grows, condition-grows, row-grows, Gives, gives, errs}
 use Rattle.table_locate.specs.Laws.Exploring.Commands.{each_more, no_caller, StateFits, NextFits, fits_on, fits_ends, fits_fork, state-grows, frame-fits, procedure-fits, standing-gives}

@@ -16,7 +16,7 @@ use Rattle.gil.specs.Numbers.{most_branches, most_rows, most_terms, word_length,
 use Rattle.gil.specs.Layout.{word_bytes, room, bit, reason_code, variable_words, cell_words, condition_words, end_words, outcome_words, head_numbers, head_words, row_parts, row_words, row_bytes, ref_tag, pool_bytes, table_head, table_bytes, input_words}
 use Rattle.machine_code.specs.WellFormed as WellFormed
 use Rattle.machine_code.specs.WellFormed.{Each}
-use Rattle.machine_code.specs.Accepted.Lists.{each_append}
+use Rattle.machine_code.proofs.Accepted.Lists.{each_append}
 use Rattle.gil.proofs.Theory.Gathered.{gather_append}
 use Rattle.lent_words.specs.Mirror.{word_at, at_most}
 use Rattle.lent_words.specs.Laws.Words.{all_of}

@@ -6,7 +6,7 @@ use Rattle.std.proofs.lemmas.List.Edits.{sets}
 use Rattle.gil.specs.Tree.{Expr, Cmd, ifgoto, vanish, Name}
 use Rattle.gil.specs.Names.{expr_vars, cmd_vars, cmd_properties, cmd_calls, is_end, rename_cmd, with_name, with_names}
 use Rattle.machine_code.specs.Code.{cmd_nodes, cmd_words, code_words, jump_kind, vanish_kind, command_at}
-use Rattle.machine_code.specs.Accepted.Sizes.{expr_size, cmd_size}
+use Rattle.machine_code.proofs.Accepted.Sizes.{expr_size, cmd_size}
 use Rattle.gil.specs.Numbers.{most_commands, most_procedures, most_properties, most_variables}
 use Rattle.text_names.specs.Mirror.Tables.{Kept, number_in, Interned, Grows}
 use Rattle.text_names.specs.Laws.Tables.{number-stays, grows_none, grows_one, grows_then}

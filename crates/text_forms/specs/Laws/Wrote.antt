@@ -8,8 +8,8 @@ use Rattle.std.proofs.lemmas.List.Edits.{sets}
 use Rattle.gil.specs.Tree.{Expr, var, Name}
 use Rattle.gil.specs.Names.{expr_vars, rename_expr, with_name, with_names}
 use Rattle.machine_code.specs.Code.{node, expr_words, variable_node}
-use Rattle.machine_code.specs.Accepted.Sizes.{expr_size}
-use Rattle.machine_code.specs.Accepted.Numbered.{expr_words-size, rename_expr-size}
+use Rattle.machine_code.proofs.Accepted.Sizes.{expr_size}
+use Rattle.machine_code.proofs.Accepted.Numbered.{expr_words-size, rename_expr-size}
 use Rattle.gil.specs.Numbers.{most_variables}
 use Rattle.text_names.specs.Mirror.Tables.{number_in, Interned}
 use Rattle.text_names.specs.Laws.Tables.{number-stays, grows_one}

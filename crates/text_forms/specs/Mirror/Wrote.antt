@@ -4,7 +4,7 @@ use Rattle.std.proofs.lemmas.List.Edits.{sets}
 use Rattle.gil.specs.Tree.{Expr, Name}
 use Rattle.gil.specs.Names.{expr_vars, rename_expr, with_names}
 use Rattle.machine_code.specs.Code.{expr_words, code_words}
-use Rattle.machine_code.specs.Accepted.Sizes.{expr_size}
+use Rattle.machine_code.proofs.Accepted.Sizes.{expr_size}
 use Rattle.gil.specs.Numbers.{most_variables}
 use Rattle.text_names.specs.Mirror.Tables.{Kept, number_in, Grows}
 

@@ -9,7 +9,7 @@ use Rattle.gil.specs.Tree.{Op, Expr, num, bool, neg, bin, Name}
 use Rattle.gil.specs.Names.{expr_vars, rename_expr, with_names}
 use Rattle.machine_code.specs.Code as Code
 use Rattle.machine_code.specs.Code.{node, expr_words, code_words, not_node, truth_node}
-use Rattle.machine_code.specs.Accepted.Sizes.{expr_size}
+use Rattle.machine_code.proofs.Accepted.Sizes.{expr_size}
 use Rattle.gil.specs.Layout.{bit}
 use Rattle.gil.specs.Numbers.{most_variables}
 use Rattle.text_names.specs.Mirror.Tables.{Kept, Grows}

@@ -4,8 +4,8 @@ use Rattle.std.proofs.Common.{sym, ap, ◌∙◌, append_assoc, arith, length-ap
 use Rattle.gil.specs.Tree.{Cmd, assign, ifgoto, call, lookup, mutate, dispose, u_sym, i_sym, return, fail, vanish, Name}
 use Rattle.gil.specs.Names.{gather}
 use Rattle.machine_code.specs.Code.{cmd_nodes, cmd_words, command_words, command_size}
-use Rattle.machine_code.specs.Accepted.Sizes.{cmd_size}
-use Rattle.machine_code.specs.Accepted.Numbered.{cmd_nodes-size, rename_cmd-size}
+use Rattle.machine_code.proofs.Accepted.Sizes.{cmd_size}
+use Rattle.machine_code.proofs.Accepted.Numbered.{cmd_nodes-size, rename_cmd-size}
 use Rattle.gil.specs.Numbers.{most_procedures, most_properties, most_variables}
 use Rattle.text_names.specs.Mirror.Tables.{number_in}
 use Rattle.text_values.specs.Mirror.{numbered}

@@ -4,7 +4,7 @@ use Rattle.std.proofs.lemmas.List.Edits.{sets}
 use Rattle.gil.specs.Tree.{Cmd, Name}
 use Rattle.gil.specs.Names.{gather, cmd_vars, cmd_properties, cmd_calls, ends_open, with_names}
 use Rattle.machine_code.specs.Code.{cmd_nodes, command_words, code_words, nodes_at, command_at}
-use Rattle.machine_code.specs.Accepted.Sizes.{cmd_size}
+use Rattle.machine_code.proofs.Accepted.Sizes.{cmd_size}
 use Rattle.gil.specs.Numbers.{most_commands, most_procedures, most_properties, most_variables}
 use Rattle.text_names.specs.Mirror.Tables.{Kept, Grows}
 use Rattle.text_values.specs.Mirror.{jump_at, numbered}

@@ -11,7 +11,7 @@ use Rattle.gil.specs.Tree.{Cmd, Name}
 use Rattle.gil.specs.Reading.{Read, is_mark, one_or_more, command, commands_of, commands}
 use Rattle.gil.specs.Names.{gather, cmd_vars, cmd_properties, cmd_calls, is_end, ends_open, with_names}
 use Rattle.machine_code.specs.Code.{cmd_nodes, cmd_words, command_words, code_words, nodes_at, command_at}
-use Rattle.machine_code.specs.Accepted.Sizes.{cmd_size}
+use Rattle.machine_code.proofs.Accepted.Sizes.{cmd_size}
 use Rattle.gil.specs.Numbers.{most_commands, most_procedures, most_properties, most_variables}
 use Rattle.gil.proofs.Theory.Gathered.{gather_append, gather-last}
 use Rattle.text_names.specs.Mirror.Tables.{Kept, Grows}

@@ -13,9 +13,9 @@ use Rattle.gil.specs.Tree.{Cmd, assign, ifgoto, call, lookup, mutate, dispose, u
 use Rattle.gil.specs.Names.{any, gather, has, place_of, with_names, repeated, cmd_calls, proc_vars, properties, proc_names, wrong_names, rename_expr, rename_cmd, Procedure, number_proc, number_program}
 use Rattle.machine_code.specs.Code.{expr_words, cmd_nodes, cmd_words, command_words, procedure_words, call_kind, code_words, command_size, commands_at, nodes_at, assign_kind, command_at, dispose_kind, fail_kind, i_sym_kind, jump_kind, lookup_kind, mutate_kind, procedures_at, return_kind, u_sym_kind, vanish_kind}
 use Rattle.machine_code.specs.WellFormed.{Each, none, more}
-use Rattle.machine_code.specs.Accepted.{Limited}
-use Rattle.machine_code.specs.Accepted.Lists.{or_false, each_to, each_both, each-gather}
-use Rattle.machine_code.specs.Accepted.Places.{place_of-below, with_names-has}
+use Rattle.machine_code.proofs.Accepted.{Limited}
+use Rattle.machine_code.proofs.Accepted.Lists.{or_false, each_to, each_both, each-gather}
+use Rattle.machine_code.proofs.Accepted.Places.{place_of-below, with_names-has}
 use Rattle.gil.specs.Numbers.{most_commands, most_procedures}
 use Rattle.text_words.specs.Laws.Words.{same-is}
 use Rattle.text_tokens.specs.Mirror.Seen.{name_at}
@@ -241,7 +241,7 @@ relink_proc_lem g p f k r h =
     (map-map (relink g) (rename_cmd (λ w. place_of w (proc_vars r)) p f) r.body
     ∙ map_each (each_to (relink_rename g (λ w. place_of w (proc_vars r)) p f k) h))
 
--- Where refusals 5 and 6 are not given: `limited` is `limits-kept` (crates/machine_code/specs/Accepted.antt) of `over_limits ps ≡ false`; `kq` and `kc`
+-- Where refusals 5 and 6 are not given: `limited` is `limits-kept` (crates/machine_code/proofs/Accepted.antt) of `over_limits ps ≡ false`; `kq` and `kc`
 -- are `kept-procs` and `kept-calls` of specs/Steps/Verdict.antt, so `Tells.names` and `Tells.calls` from empty tables.
 module _ (s calls procs : List ℕ) (ps : List (Proc Name)) (limited : Limited ps) (right : wrong_names ps ≡ false) (kq : Kept s most_procedures procs (with_names [] (proc_names ps))) (kc : Kept s most_procedures calls (with_names [] (gather calls_of ps))) where
   tests : (repeated (proc_names ps) ≡ false) × (any (λ f. not (has f (proc_names ps))) (gather calls_of ps) ≡ false)

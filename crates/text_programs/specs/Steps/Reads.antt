@@ -13,10 +13,10 @@ use Rattle.gil.specs.Calls.{text_answer, check_call}
 use Rattle.gil.specs.Machine.{procedure_at}
 use Rattle.machine_code.specs.Code.{cmd_nodes, program_words, code_words, nodes_room}
 use Rattle.machine_code.specs.WellFormed.{Each, none, more}
-use Rattle.machine_code.specs.Accepted.{Passed, accepted-passed, passed_well_formed, once_each}
-use Rattle.machine_code.specs.Accepted.Sizes.{proc_size}
-use Rattle.machine_code.specs.Accepted.Lists.{total}
-use Rattle.machine_code.specs.Accepted.Numbered.{numbered-nodes}
+use Rattle.machine_code.proofs.Accepted.{Passed, accepted-passed, passed_well_formed, once_each}
+use Rattle.machine_code.proofs.Accepted.Sizes.{proc_size}
+use Rattle.machine_code.proofs.Accepted.Lists.{total}
+use Rattle.machine_code.proofs.Accepted.Numbered.{numbered-nodes}
 use Rattle.gil.specs.Numbers.{most_bytes, most_commands, most_procedures, most_properties, most_variables}
 use Rattle.text_tokens.specs.Mirror.Seen.{name_at}
 use Rattle.text_names.specs.Mirror.Sizes.{count_at, names_words}

@@ -5,7 +5,7 @@ use Rattle.std.proofs.lemmas.List.Edits.{sets}
 use Rattle.gil.specs.Tree.{Expr, assign, call, lookup, mutate, dispose, u_sym, i_sym, Name}
 use Rattle.gil.specs.Names.{expr_vars, cmd_vars, cmd_properties, cmd_calls, is_end, rename_cmd, with_names}
 use Rattle.machine_code.specs.Code.{cmd_nodes, cmd_words, assign_kind, call_kind, code_words, dispose_kind, i_sym_kind, lookup_kind, mutate_kind, u_sym_kind}
-use Rattle.machine_code.specs.Accepted.Sizes.{expr_size, cmd_size}
+use Rattle.machine_code.proofs.Accepted.Sizes.{expr_size, cmd_size}
 use Rattle.gil.specs.Numbers.{most_procedures, most_properties, most_variables}
 use Rattle.text_names.specs.Mirror.Tables.{Kept, number_in, Interned}
 use Rattle.text_names.specs.Laws.Lists.{with_names-append}

@@ -19,7 +19,7 @@ use Rattle.gil.proofs.Theory.Tests.{chosen}
 use Rattle.machine_code.specs.Code.{all_commands}
 use Rattle.machine_code.specs.WellFormed as WellFormed
 use Rattle.machine_code.specs.WellFormed.{Each, ExprFits, CmdFits, ProcedureFits, WellFormed}
-use Rattle.machine_code.specs.Accepted.Lists.{each_to}
+use Rattle.machine_code.proofs.Accepted.Lists.{each_to}
 use Rattle.table_locate.specs.Laws.Sound.{value_sort, RefFits, ValueFits, fits_number, fits_truth, fits_location, fits_term, NodeFits, fits_input, fits_not, fits_op, TermsFit, VariableFits, unbound, bound, StoreFits, CellFits, CellsFit, EndFits, fits_returned, fits_failed, fits_vanished}
 use Rattle.table_locate.specs.Laws.Exploring.Growing.{Grows, same-pool, then_grows, value_grows, variable_grows, store-grows, cells-grow, made-grows, made-fits, made_after, Gives, gives, then-gives, wrong_sort_lem, must-give, there-gives}
 

@@ -11,7 +11,7 @@ use Rattle.gil.specs.Machine.{Store, Cell, End, Result, ok, err, and_then, give,
 use Rattle.gil.specs.Rows.{Condition, steps, Outcome, Row}
 use Rattle.gil.specs.Pool.{Ref, place_in, ref_to, Pool}
 use Rattle.machine_code.specs.WellFormed as WellFormed
-use Rattle.machine_code.specs.Accepted.Lists.{each_to}
+use Rattle.machine_code.proofs.Accepted.Lists.{each_to}
 use Rattle.table_locate.specs.Laws.Sound.{RefFits, ValueFits, fits_number, fits_truth, fits_location, fits_term, NodeFits, TermsFit, no_term, next_term, ConditionFits, VariableFits, unbound, bound, StoreFits, CellFits, CellsFit, EndFits, fits_returned, fits_failed, fits_vanished, fits_error, OutcomeFits, fits_ended, fits_cut, RowFits}
 
 -- A pool that grew: every reference that fitted still does

@@ -8,8 +8,8 @@ use Rattle.gil.specs.Text.{Token, word, property, becomes, mark, ended, Word, Ke
 use Rattle.gil.specs.Tree.{Op, plus, minus, equal, less, and, or, Expr, num, bool, var, neg, bin, Name}
 use Rattle.gil.specs.Reading.{Read, faulty, read, Reader, after, ◌>>=◌, ◌>>◌, done, nothing, token, ahead, is_mark, is_becomes, so, the_mark, the_becomes, name_of, the_name, number_of, the_number, property_of, the_property, op_mark, op_key, op_word, op_of, the_op, negation, bracketed, expr_key, expr_word, expr_from, expr_deep, expr}
 use Rattle.gil.proofs.Theory.Tests.{chosen}
-use Rattle.machine_code.specs.Accepted.Tokens.{token_bytes, lexeme-ends, WordFits, a_name, a_number, a_key, a_uSite, an_iSite, a_fault, word_of-fits, as_word-fits}
-use Rattle.machine_code.specs.Accepted.Sizes.{expr_size, ExprSmall, small_number, small_truth, small_variable, small_not, small_operator}
+use Rattle.machine_code.proofs.Accepted.Tokens.{token_bytes, lexeme-ends, WordFits, a_name, a_number, a_key, a_uSite, an_iSite, a_fault, word_of-fits, as_word-fits}
+use Rattle.machine_code.proofs.Accepted.Sizes.{expr_size, ExprSmall, small_number, small_truth, small_variable, small_not, small_operator}
 
 -- a reader was faulty, or it ended in the text and `P` holds of what it read and where it ended
 pub data Given {A : Type 0} (s : List ℕ) (P : A → ℕ → Type 0) : Read A → Type 0 where

@@ -4,7 +4,7 @@ use Rattle.std.specs.Prelude.{ℕ, suc, ◌+◌, ◌≤◌, ◌<◌, Bool, lengt
 use Rattle.gil.specs.Tree.{Op, Expr, num, bool, var, neg, bin, Cmd, assign, ifgoto, call, lookup, mutate, dispose, u_sym, i_sym, return, fail, vanish, Proc, Name}
 use Rattle.machine_code.specs.Code.{number_words}
 use Rattle.machine_code.specs.WellFormed.{Each}
-use Rattle.machine_code.specs.Accepted.Lists.{total}
+use Rattle.machine_code.proofs.Accepted.Lists.{total}
 
 -- the words of an expression, and of a command's, a procedure's and a text's expressions
 module _ {N : Type 0} where

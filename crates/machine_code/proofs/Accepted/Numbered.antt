@@ -9,9 +9,9 @@ use Rattle.gil.specs.Tree.{Expr, num, bool, var, neg, bin, Cmd, assign, ifgoto, 
 use Rattle.gil.specs.Names.{Procedure, place_of, distinct, expr_vars, cmd_vars, cmd_properties, cmd_calls, proc_vars, rename_expr, rename_cmd, number_proc, gather}
 use Rattle.machine_code.specs.Code.{expr_words, cmd_nodes}
 use Rattle.machine_code.specs.WellFormed.{Each, none, more, ExprFits, a_number, a_truth, a_variable, a_not, an_operator, CmdFits, an_assign, a_jump, a_call, a_lookup, a_mutate, a_dispose, a_uSym, an_iSym, a_return, a_fail, a_vanish, ProcedureFits}
-use Rattle.machine_code.specs.Accepted.Lists.{each_to, each_both, each_append, each_map, each-gather, total, total_equal, length-gather, total-gather, total-map}
-use Rattle.machine_code.specs.Accepted.Places.{Known, place_of-below, place_of-within, distinct-has}
-use Rattle.machine_code.specs.Accepted.Sizes.{expr_size, cmd_size, proc_size, ExprSmall, small_number, small_truth, small_variable, small_not, small_operator, CmdSmall, small_assign, small_jump, small_call, small_lookup, small_mutate, small_dispose, small_uSym, small_iSym, small_return, small_fail, small_vanish, ProcSmall}
+use Rattle.machine_code.proofs.Accepted.Lists.{each_to, each_both, each_append, each_map, each-gather, total, total_equal, length-gather, total-gather, total-map}
+use Rattle.machine_code.proofs.Accepted.Places.{Known, place_of-below, place_of-within, distinct-has}
+use Rattle.machine_code.proofs.Accepted.Sizes.{expr_size, cmd_size, proc_size, ExprSmall, small_number, small_truth, small_variable, small_not, small_operator, CmdSmall, small_assign, small_jump, small_call, small_lookup, small_mutate, small_dispose, small_uSym, small_iSym, small_return, small_fail, small_vanish, ProcSmall}
 
 -- the size of a tree is how many words `Code` writes for it
 pub expr_words-size : (e : Expr ℕ) → length (expr_words e) ≡ expr_size e

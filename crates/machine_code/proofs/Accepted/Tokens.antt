@@ -14,8 +14,8 @@ use Rattle.gil.specs.Names.{any}
 use Rattle.gil.proofs.Theory.Tests.{chosen}
 use Rattle.machine_code.specs.Code.{number_words}
 use Rattle.machine_code.specs.WellFormed.{Each, none, more}
-use Rattle.machine_code.specs.Accepted.Lists.{and_true, none_passes}
-use Rattle.machine_code.specs.Accepted.Places.{same_equal}
+use Rattle.machine_code.proofs.Accepted.Lists.{and_true, none_passes}
+use Rattle.machine_code.proofs.Accepted.Places.{same_equal}
 
 -- the bytes that a token takes at least
 unfoldable pub token_bytes : Token → ℕ

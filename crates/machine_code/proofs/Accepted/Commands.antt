@@ -7,10 +7,10 @@ use Rattle.gil.specs.Text.{Token, word, property, becomes, mark, ended, Word, Ke
 use Rattle.gil.specs.Tree.{Expr, var, Cmd, assign, ifgoto, call, lookup, mutate, dispose, u_sym, i_sym, return, fail, vanish, Name}
 use Rattle.gil.specs.Reading.{Reader, nothing, token, is_mark, is_ended, assignment, call_of, call_or_var, named, lookup_of, mutate_of, dispose_of, value_key, value_word, value_from, setting_of, jump_of, ending_of, command_key, command_word, command, or_more, one_or_more, commands_of, commands, procedure, procedures_of, procedures}
 use Rattle.machine_code.specs.WellFormed.{Each, none, more}
-use Rattle.machine_code.specs.Accepted.Lists.{total}
-use Rattle.machine_code.specs.Accepted.Tokens.{WordFits, a_name, a_number, a_key, a_uSite, an_iSite, a_fault, word_of-fits, as_word-fits}
-use Rattle.machine_code.specs.Accepted.Sizes.{expr_size, cmd_size, proc_size, ExprSmall, small_variable, CmdSmall, small_assign, small_jump, small_call, small_lookup, small_mutate, small_dispose, small_uSym, small_iSym, small_return, small_fail, small_vanish, ProcSmall}
-use Rattle.machine_code.specs.Accepted.Readers.{Given, Reads, nothing-reads, done-reads, reads-to, reads_then, reads_on, token-reads, ahead-reads, the_mark-reads, the_becomes-reads, the_name-reads, the_number-reads, the_property-reads, expr-reads}
+use Rattle.machine_code.proofs.Accepted.Lists.{total}
+use Rattle.machine_code.proofs.Accepted.Tokens.{WordFits, a_name, a_number, a_key, a_uSite, an_iSite, a_fault, word_of-fits, as_word-fits}
+use Rattle.machine_code.proofs.Accepted.Sizes.{expr_size, cmd_size, proc_size, ExprSmall, small_variable, CmdSmall, small_assign, small_jump, small_call, small_lookup, small_mutate, small_dispose, small_uSym, small_iSym, small_return, small_fail, small_vanish, ProcSmall}
+use Rattle.machine_code.proofs.Accepted.Readers.{Given, Reads, nothing-reads, done-reads, reads-to, reads_then, reads_on, token-reads, ahead-reads, the_mark-reads, the_becomes-reads, the_name-reads, the_number-reads, the_property-reads, expr-reads}
 
 -- a command past its first token: twice its words are at most its bytes and one
 pub record CmdRead (at : ℕ) (c : Cmd Name) (next : ℕ) : Type 0 where

@@ -11,12 +11,12 @@ use Rattle.gil.specs.Names.{any, gather, has, place_of, cmd_properties, cmd_call
 use Rattle.gil.proofs.Theory.Tests.{chosen}
 use Rattle.machine_code.specs.Code.{all_commands, nodes_room}
 use Rattle.machine_code.specs.WellFormed.{Each, WellFormed}
-use Rattle.machine_code.specs.Accepted.Lists.{or_false, each_to, each_both, each_map, each-gather, none_passes, total}
-use Rattle.machine_code.specs.Accepted.Places.{Known, place_of-below, distinct-has}
-use Rattle.machine_code.specs.Accepted.Sizes.{proc_size, ProcSmall}
-use Rattle.machine_code.specs.Accepted.Readers.{Given, is_faulty, is_read}
-use Rattle.machine_code.specs.Accepted.Commands.{ItemsRead, procedures-given}
-use Rattle.machine_code.specs.Accepted.Numbered.{numbered-commands, numbered-nodes, number_proc-fits}
+use Rattle.machine_code.proofs.Accepted.Lists.{or_false, each_to, each_both, each_map, each-gather, none_passes, total}
+use Rattle.machine_code.proofs.Accepted.Places.{Known, place_of-below, distinct-has}
+use Rattle.machine_code.proofs.Accepted.Sizes.{proc_size, ProcSmall}
+use Rattle.machine_code.proofs.Accepted.Readers.{Given, is_faulty, is_read}
+use Rattle.machine_code.proofs.Accepted.Commands.{ItemsRead, procedures-given}
+use Rattle.machine_code.proofs.Accepted.Numbered.{numbered-commands, numbered-nodes, number_proc-fits}
 pub mod Lists
 pub mod Places
 pub mod Tokens

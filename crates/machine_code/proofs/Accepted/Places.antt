@@ -7,7 +7,7 @@ use Rattle.gil.specs.Tree.{Name}
 use Rattle.gil.specs.Names.{any, has, place_of, with_name, with_names, distinct}
 use Rattle.gil.proofs.Theory.Tests.{chosen}
 use Rattle.machine_code.specs.WellFormed.{Each, none, more}
-use Rattle.machine_code.specs.Accepted.Lists.{or_right, and_true, any_append}
+use Rattle.machine_code.proofs.Accepted.Lists.{or_right, and_true, any_append}
 
 -- `same` tells equality
 pub same_itself : (w : Name) → same w w ≡ true
