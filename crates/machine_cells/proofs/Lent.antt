@@ -7,7 +7,7 @@ use native.Mathlib.Omega.{arith}
 use lib.Dec.{lit<}
 use lib.ListN.{length}
 use seplogic.Ra.Ura.{Ura}
-use seplogic.Ra.TreeShare.{full_share}
+use base.Fraction.{full_share}
 use package.mir.Syntax.{Ty, ty_array}
 use package.mir.Val.{Val}
 use base.Logic.{SProp, ent, sep, via, assoc', guard}

@@ -17,7 +17,7 @@ use machine_values::Location;
 // as many as a path may have
 pub const CELLS: usize = MOST_CELLS;
 
-#[derive(Drop)]
+#[derive(Clone, Copy)]
 pub struct Cell {
     pub location: Location,
     pub property: u32,
@@ -53,7 +53,7 @@ fn is_reached(c: Cell, l: Location, q: u32) -> bool
 }
 
 // Where a search ended, and the cell that stands there, if one is in use there
-#[derive(Drop)]
+#[derive(Clone, Copy)]
 pub struct Found {
     pub place: usize,
     pub cell: Cell,
@@ -136,7 +136,7 @@ fn here(f: Found, held: usize, l: Location, q: u32) -> bool
 
 // What an action asks of the cells: `lookup`, `mutate` or `dispose` by its number in document 01's table, or nothing (0); `value` is what
 // `mutate` writes
-#[derive(Drop)]
+#[derive(Clone, Copy)]
 pub struct Ask {
     pub kind: u32,
     pub location: Location,
@@ -158,7 +158,7 @@ pub fn nothing() -> Ask
 
 // What is done to the cells for it: `cell` is put in at a place, those up to `last` moving up, and then the location's cells are taken out of the
 // first `among`; how many are in use before that removal; and what the action's variable is given, 0 where it errs.
-#[derive(Drop)]
+#[derive(Clone, Copy)]
 pub struct Deed {
     pub at: usize,
     pub last: usize,

@@ -4,7 +4,6 @@ use Rattle.std.proofs.Common.{add-one, ◌∙◌, ap₂}
 use native.Mathlib.Omega.{arith}
 use Rattle.std.proofs.Math.Path.{sym, ap}
 use Rattle.machine_code.specs.Mirror.{if?}
-use Rattle.machine_values.specs.Mirror.{truth_word, work_word}
 use Rattle.gil.specs.Numbers.{most_branches, most_rows, most_terms, word_length, row_length, heading_length, conditions_word}
 use Rattle.lent_words.specs.Mirror.{word_at, at_most}
 use Rattle.table_locate.specs.Mirror.{term_value, values_to, condition_holds, conditions_hold, row_holds, first_row, locate_in}

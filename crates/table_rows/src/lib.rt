@@ -36,7 +36,7 @@ const VARIABLES_COUNT_AT: usize = 4 * layout::VARIABLES_WORD as usize;
 const CELL_VALUES_AT: usize = CELLS_AT + 8;
 
 // A row's first ten words. Outcome, tag and word are its outcome and value, error number or reason; the last three count what follows.
-#[derive(Drop)]
+#[derive(Clone, Copy)]
 pub struct Head {
     pub outcome: u32,
     pub tag: u32,

@@ -15,8 +15,8 @@ use Rattle.machine_code.specs.Code.{op_word}
 use Rattle.machine_values.specs.Mirror.{truth_word, work_word}
 use Rattle.lent_words.specs.Mirror.{word_at}
 use Rattle.lent_words.specs.Laws.Reads.{Words, none, more, word_at-words}
-use Rattle.lent_words.specs.Laws.Rooms.{length-words, words_append}
-use Rattle.lent_words.specs.Laws.Row.{value_two, node-five, nodes-long}
+use Rattle.lent_words.specs.Laws.Rooms.{words_append}
+use Rattle.lent_words.specs.Laws.Row.{node-five, nodes-long}
 use Rattle.gil.proofs.Theory.Gathered.{gather_append}
 use Rattle.machine_values.specs.Laws.{ConstAs, a_number, a_truth, a_location, low-number, low-location, low-truth, work_law, not_law}
 use Rattle.table_locate.specs.Mirror.{value_word, operand_word, op_value, input_value, term_of, term_value, values_to}

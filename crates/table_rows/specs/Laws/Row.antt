@@ -8,7 +8,7 @@ use mathlib.Core.List.{List, [], ◌∷◌, ◌++◌}
 use Rattle.std.proofs.Math.Option.{Option, none, some}
 use Rattle.std.proofs.Math.ListN.{length}
 use Rattle.gil.specs.Names.{gather}
-use Rattle.gil.specs.Values.{Constant, location, Value, term}
+use Rattle.gil.specs.Values.{Constant, Value}
 use Rattle.gil.specs.Machine as machine
 use Rattle.gil.specs.Rows.{Condition, Row, Outcome}
 use Rattle.gil.specs.Layout.{word_bytes, bit, constant_words, value_words, variable_words, cell_words, condition_words, end_words, outcome_words, head_words, row_words, row_bytes, no_number, answer_bytes, row_parts}

@@ -15,7 +15,7 @@ use Rattle.gil.specs.Layout.{word_bytes, room, row_bytes, ref_tag, table_head, t
 use Rattle.machine_cells.specs.declared.Cell.{Cell}
 use Rattle.table_rows.specs.declared.Head.{Head}
 use Rattle.table_rows.specs.Mirror.{with_row, with_row_at}
-use Rattle.gil.proofs.Theory.Gathered.{gather_append, gather-last}
+use Rattle.gil.proofs.Theory.Gathered.{gather-last}
 use Rattle.lent_words.specs.Mirror.{put_words}
 use Rattle.lent_words.specs.Laws.Rooms.{zeros, length-words, length-room, put-room}
 use Rattle.lent_words.specs.Laws.Row.{row-long}

@@ -12,7 +12,7 @@ use borrow.Author.Tests.{ltb-true, ltb-false, leb-true}
 use Rattle.gil.specs.Numbers.{most_commands, most_variables, most_properties, most_frames, most_inputs, most_locations, most_cells, not_bound, no_such_cell, ninth_frame, seventeenth_input, seventeenth_location, thirty_third_cell}
 use Rattle.gil.specs.Tree.{Op, plus, minus, equal, less, and, or, Expr, Cmd, vanish}
 use Rattle.gil.specs.Names.{gather, Procedure, Program}
-use Rattle.gil.specs.Values.{Constant, number, location, booleans, locations, sort_of, number_in, same_sort, Fit, right, wrong, unlike, fit, work, work_not, Value, const, term, Node}
+use Rattle.gil.specs.Values.{Constant, number, booleans, sort_of, number_in, same_sort, Fit, right, wrong, unlike, fit, work, work_not, Value, const, term, Node}
 use Rattle.gil.specs.Machine.{Caller, Control, Counters, Store, Cell, Memory, Answer, State, End, Next, on, ends, fork, Result, and_then, ◌>>=◌, ◌>>◌, give, stop, must, there, sort_in, making, combine, fitted, operate, negated, negate, eval, frames, goto, onward, entered, back_to, with_input, with_location, counting, procedure_at, command_at, steer, assigned, with_memory, answered, with_cells, frame, top_store, below_top, opened, closed, returns_to, is_at, is_before, cell_at, put_cell, without_cells, the_location, jump, looked_up, written, dropped, fresh_location, fresh_input, exec}
 use Rattle.gil.specs.Pool.{Ref, numberTerm, booleanTerm, ref_sort, Pool, added, pooled}
 use Rattle.gil.proofs.Theory.Tests.{chosen}
@@ -114,17 +114,17 @@ each_in d zero (WellFormed.more q qs) h = q
 each_in d (suc i) (WellFormed.more q qs) h = each_in d i qs (omega arith)
 
 pub eval-gives :
-    {w : Pool} {ρ : Store Ref} {variables d : ℕ} {e : Expr ℕ}
+    {variables d : ℕ} {w : Pool} {ρ : Store Ref} {e : Expr ℕ}
     → TermsFit [] w
     → Each (VariableFits w) ρ
     → ExprFits variables d e
     → Gives ValueFits w (eval_p ρ e w)
 unfolding pooled eval give ◌>>=◌
-eval-gives {w} t f (WellFormed.a_number h) = gives (same-pool w) t (fits_number h)
-eval-gives {w} t f WellFormed.a_truth = gives (same-pool w) t fits_truth
-eval-gives {w} t f (WellFormed.a_variable {x = x} h) = there-gives not_bound t (omega arith) (omega arith) (each_at none x f unbound)
-eval-gives {w} t f (WellFormed.a_not e) = then-gives (eval-gives t f e) (λ u a g s p. negate-gives s p)
-eval-gives {w} t f (WellFormed.an_operator {o = o} e d) =
+eval-gives {w = w} t f (WellFormed.a_number h) = gives (same-pool w) t (fits_number h)
+eval-gives {w = w} t f WellFormed.a_truth = gives (same-pool w) t fits_truth
+eval-gives {w = w} t f (WellFormed.a_variable {x = x} h) = there-gives not_bound t (omega arith) (omega arith) (each_at none x f unbound)
+eval-gives {w = w} t f (WellFormed.a_not e) = then-gives (eval-gives t f e) (λ u a g s p. negate-gives s p)
+eval-gives {w = w} t f (WellFormed.an_operator {o = o} e d) =
     then-gives (eval-gives t f e) (λ u a g s p.
     then-gives (eval-gives s (each_to (variable_grows g) f) d) (λ v b h r q. operate-gives o a b r (value_grows h p) q))
 

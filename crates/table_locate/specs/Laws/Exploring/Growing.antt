@@ -6,11 +6,10 @@ use Rattle.std.proofs.Math.Option.{Option}
 use Rattle.std.proofs.Math.ListN.{get_or-append}
 use Rattle.std.proofs.Math.Seq.{get_or-append_seam}
 use Rattle.gil.specs.Numbers.{wrong_sort, last_error}
-use Rattle.gil.specs.Values.{location, Value, term, Node, input, gives_number}
+use Rattle.gil.specs.Values.{Value, Node, input, gives_number}
 use Rattle.gil.specs.Machine.{Store, Cell, End, Result, ok, err, and_then, give, stop, must, there}
-use Rattle.gil.specs.Rows.{Condition, steps, Outcome, Row}
+use Rattle.gil.specs.Rows.{Condition, Outcome, Row}
 use Rattle.gil.specs.Pool.{Ref, place_in, ref_to, Pool}
-use Rattle.machine_code.specs.WellFormed as WellFormed
 use Rattle.machine_code.proofs.Accepted.Lists.{each_to}
 use Rattle.table_locate.specs.Laws.Sound.{RefFits, ValueFits, fits_number, fits_truth, fits_location, fits_term, NodeFits, TermsFit, no_term, next_term, ConditionFits, VariableFits, unbound, bound, StoreFits, CellFits, CellsFit, EndFits, fits_returned, fits_failed, fits_vanished, fits_error, OutcomeFits, fits_ended, fits_cut, RowFits}
 
