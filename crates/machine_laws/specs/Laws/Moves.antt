@@ -188,6 +188,7 @@ module _ {M : Model} (E : Engine M) (p : Program) where
       jump_term {y} n booleans (tags_boolean e) world a =
           simp (ne_eqb (y / 4294967296) boolean_tag (λ f. absurd (omega arith)), eq-eqb (y / 4294967296) boolean_term_tag e)
           (record { world = world; next = has_forked a (goto_as n) (onward_as small) })
+      jump_term n locations tag world a = elim tag [ ]
 
       pub jump_as : {w : M.World} {v : Value M.Term} {y : ℕ} {pool : List ℕ} {count : ℕ} (n : ℕ)
           → E.WorldAs w pool count
