@@ -37,7 +37,7 @@ pub struct Control {
 }
 
 // A command's five words (crates/machine_code)
-#[derive(Drop)]
+#[derive(Clone, Copy)]
 pub struct Command {
     pub kind: u32,
     pub target: u32,
@@ -48,7 +48,7 @@ pub struct Command {
 
 // What a command comes to. A value is its tag and its word; a fork has its term's place and where each branch goes on. Every field is of 32
 // bits, so that none lies across two others and the compiler keeps each in a register.
-#[derive(Drop)]
+#[derive(Clone, Copy)]
 pub enum Next {
     On(Control),
     Returned(u32, u32),
