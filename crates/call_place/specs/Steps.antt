@@ -13,7 +13,7 @@ use Rattle.gil.specs.Numbers.{table_length, pool_length, first_row}
 use Rattle.machine_code.proofs.Accepted.Lists.{or_false}
 use Rattle.table_locate.specs.Laws.Inputs.{Bytes}
 use Rattle.table_locate.specs.Mirror.{locate_in}
-use Rattle.table_locate.specs.Laws.Place.{place_law}
+use Rattle.table_locate.proofs.Laws.Place.{place_law}
 use Rattle.table_explore.specs.Mirror.{Explored}
 use Rattle.table_explore_laws.specs.Laws.Leaves.{ExploredAs, was_refused, was_explored}
 use Rattle.call_given.specs.Mirror.{Begun}

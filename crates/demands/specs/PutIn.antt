@@ -28,8 +28,8 @@ use Rattle.lent_words.specs.Laws.Parts.{Change, change, changed, parts-changed}
 use Rattle.lent_words.specs.Laws.Row.{variable_two, cell_four, outcome-three, head-fits, conditions-fit, variables-fit, cells_fit}
 use Rattle.machine_values.specs.Laws.{ConstAs, a_number, a_truth, a_location}
 use Rattle.table_locate.specs.Laws.Sound.{ValueFits, fits_number, fits_truth, fits_location, fits_term, VariableFits, unbound, bound, CellFits, fits_returned, fits_failed, fits_vanished, fits_error, OutcomeFits, fits_ended, fits_cut, RowFits}
-use Rattle.table_locate.specs.Laws.Terms.{ValuesAs, tag_of, word_of, two_words}
-use Rattle.table_locate.specs.Laws.Rows.{within}
+use Rattle.table_locate.proofs.Laws.Terms.{ValuesAs, tag_of, word_of, two_words}
+use Rattle.table_locate.proofs.Laws.Rows.{within}
 use Rattle.demands.specs.FromBytes.{put_tag, put_word, put_variables, put_cells, put_outcome, put_head, put_row}
 
 -- a constant's two words, from its packed value

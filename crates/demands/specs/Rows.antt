@@ -19,8 +19,8 @@ use Rattle.lent_words.specs.Mirror.{word_at, at_most}
 use Rattle.lent_words.specs.Laws.Words.{all_of}
 use Rattle.table_locate.specs.Laws.Sound.{RowFits, Sound}
 use Rattle.table_locate.specs.Laws.Inputs.{Bytes}
-use Rattle.table_locate.specs.Laws.Terms.{ValuesAs, values_as}
-use Rattle.table_locate.specs.Laws.Rows.{RowAt, row_at, row_count, term-count, row-holds, length-row, head-word}
+use Rattle.table_locate.proofs.Laws.Terms.{ValuesAs, values_as}
+use Rattle.table_locate.proofs.Laws.Rows.{RowAt, row_at, row_count, term-count, row-holds, length-row, head-word}
 use Rattle.demands.specs.FromBytes.{rows_in, words_at, row_in, steps_in, values_in, meets_row, put_row, put_in_bytes}
 use Rattle.demands.specs.PutIn.{row_put, answer-steps}
 

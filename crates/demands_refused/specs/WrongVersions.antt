@@ -37,7 +37,7 @@ use Rattle.demands.specs.Demands.{Demand1, Demand2, Demand3}
 use Rattle.lent_words.specs.Mirror.{word_at}
 use Rattle.table_locate.specs.Laws.Inputs.{Bytes}
 use Rattle.table_locate.specs.Laws.Sound.{Sound, RowFits, OutcomeFits, fits_ended, fits_vanished, fits_cut}
-use Rattle.table_locate.specs.Laws.Rows.{RowAt, row_count}
+use Rattle.table_locate.proofs.Laws.Rows.{RowAt, row_count}
 
 -- lent memory, and inputs, of just the length needed
 pub lent_table : List ℕ

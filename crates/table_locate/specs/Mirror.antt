@@ -1,5 +1,5 @@
 -- Where a list of inputs falls, read from the bytes of a table and a pool: what each function of this crate answers, on any bytes at all.
--- Laws/Rows shows that for a sound table this is document 01's `placed`. Assumes nothing.
+-- proofs/Laws/Rows shows that for a sound table this is document 01's `placed`. Assumes nothing.
 use Rattle.std.specs.Prelude.{ℕ, zero, suc, ◌+◌, ◌*◌, ◌-◌, ◌%◌, Bool, true, false, List, get_or, set, replicate, ltb, eqb}
 use Rattle.gil.specs.Numbers.{most_branches, most_rows, most_terms, number_term_tag, input_kind, not_kind, plus_kind, or_kind, word_length, term_length, row_length, heading_length, conditions_at, conditions_word}
 use Rattle.machine_code.specs.Code.{plus_node}

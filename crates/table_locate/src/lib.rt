@@ -1,6 +1,6 @@
 // "Says which row a list of inputs falls in": one pass over the pool, each term once, and one over the rows' conditions. Reads the bytes
 // of table and pool as docs/LAYOUT.md sets them out, and is total: on other bytes it answers something, in bounded time. What it
-// answers is specs/Mirror.antt's; specs/Laws/Rows.antt shows that for a sound table this is document 01's row.
+// answers is specs/Mirror.antt's; proofs/Laws/Rows.antt shows that for a sound table this is document 01's row.
 #![tactic(auto)]
 
 ghost use Rattle.std.specs.Prelude.{◌≡◌, ◌≤◌};

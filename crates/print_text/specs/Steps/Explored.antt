@@ -17,8 +17,8 @@ use Rattle.print_laws.specs.Laws.Printable.{RowFits, Printable}
 use Rattle.lent_words.specs.Laws.Reads.{Words}
 use Rattle.table_locate.specs.Laws.Sound as sound
 use Rattle.table_locate.specs.Laws.Sound.{Sound, TermsFit, no_term, next_term}
-use Rattle.table_locate.specs.Laws.Terms.{node-words}
-use Rattle.table_locate.specs.Laws.Rows.{row_words_lem, within}
+use Rattle.table_locate.proofs.Laws.Terms.{node-words}
+use Rattle.table_locate.proofs.Laws.Rows.{row_words_lem, within}
 use Rattle.table_locate.specs.Laws.Exploring.{exploring-sound, exploring-stands}
 
 terms-fit : {before terms : Pool} → length before + length terms ≤ most_terms → TermsFit before terms → Each (λ (n : Node Ref). Words (node_words n)) terms

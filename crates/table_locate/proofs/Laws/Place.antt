@@ -12,7 +12,7 @@ use Rattle.gil.specs.Calls.{places_in}
 use Rattle.machine_code.specs.WellFormed.{WellFormed}
 use Rattle.table_locate.specs.Mirror.{locate_in}
 use Rattle.table_locate.specs.Laws.Inputs.{Bytes}
-use Rattle.table_locate.specs.Laws.Rows.{locate_law}
+use Rattle.table_locate.proofs.Laws.Rows.{locate_law}
 use Rattle.table_locate.specs.Laws.Exploring.{exploring-sound}
 
 pub place_law :

@@ -29,7 +29,7 @@ use Rattle.machine_code.specs.Mirror.{if?}
 use Rattle.table_locate.specs.Mirror.{values_to, condition_holds, conditions_hold, row_holds, first_row, locate_in}
 use Rattle.table_locate.specs.Laws.Sound.{ConditionFits, VariableFits, unbound, bound, CellFits, fits_returned, fits_failed, fits_vanished, fits_error, OutcomeFits, fits_ended, fits_cut, RowFits, Sound}
 use Rattle.table_locate.specs.Laws.Inputs.{Bytes}
-use Rattle.table_locate.specs.Laws.Terms.{bit-small, value-words, ValuesAs, values_as, condition_as}
+use Rattle.table_locate.proofs.Laws.Terms.{bit-small, value-words, ValuesAs, values_as, condition_as}
 
 words-gather : {A : Type 0} {P : A → Type 0} {f : A → List ℕ} {l : List A} → ((a : A) → P a → Words (f a)) → Each P l → Words (gather f l)
 unfolding gather

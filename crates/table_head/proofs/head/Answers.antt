@@ -1,0 +1,7 @@
+-- `head::head` meets its contract. Assumes nothing.
+use Rattle.table_head.specs.Mirror.{head_in}
+use Rattle.table_head.proofs.head.Goals as goal
+
+pub returns : goal.returns
+unfolding head_in
+returns c = rw (← c.ends-e.ensures, ← c.code_word-variables.ensures)
