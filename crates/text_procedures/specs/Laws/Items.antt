@@ -1,7 +1,7 @@
 -- What a place past the end, and one in the text, say of what was read. Assumes nothing.
 use Rattle.std.specs.Prelude.{ℕ, ◌≤◌, ◌<◌, ◌≡◌, refl, List, length}
 use Rattle.std.proofs.Common.{sym, ap, arith}
-use Rattle.gil.specs.Reading.{Read, faulty, read, after}
+use Rattle.gil.specs.Reading.{Read, faulty, read}
 use Rattle.text_forms.specs.Mirror.Goes.{Goes, fails, goes}
 
 -- what a place past the end, and one in the text, say of what was read

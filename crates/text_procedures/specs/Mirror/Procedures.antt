@@ -1,7 +1,6 @@
 -- What reading a procedure, and all of them, does. Assumes nothing.
 use Rattle.std.specs.Prelude.{ℕ, ◌+◌, ◌≤◌, ◌<◌, ◌≡◌, Bool, List, [], ◌∷◌, ◌++◌, map, length, ltb}
 use Rattle.gil.specs.Tree.{Cmd, Proc, Name}
-use Rattle.gil.specs.Reading.{commands}
 use Rattle.gil.specs.Names.{any, gather, cmd_properties, cmd_calls, jumps_past, ends_open, with_names, proc_vars}
 use Rattle.machine_code.specs.Code.{code_words, nodes_at}
 use Rattle.gil.specs.Numbers.{most_commands, most_procedures, most_properties, most_variables}

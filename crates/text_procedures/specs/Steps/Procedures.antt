@@ -10,7 +10,7 @@ use Rattle.std.proofs.lemmas.List.Edits.{sets}
 use Rattle.std.proofs.Math.Dec.{leb-suc-suc}
 use Rattle.gil.specs.Text.{lexeme}
 use Rattle.gil.specs.Tree.{Cmd, assign, ifgoto, call, lookup, mutate, dispose, u_sym, i_sym, return, fail, vanish, Proc, Name}
-use Rattle.gil.specs.Reading.{Read, after, ◌>>=◌, ◌>>◌, is_ended, the_mark, the_name, one_or_more, commands, procedure, procedures_of, procedures}
+use Rattle.gil.specs.Reading.{Read, ◌>>=◌, ◌>>◌, is_ended, the_mark, the_name, one_or_more, commands, procedure, procedures_of, procedures}
 use Rattle.gil.specs.Names.{any, gather, cmd_vars, cmd_properties, cmd_calls, jumps_past, with_name, with_names, distinct, proc_vars, Procedure}
 use Rattle.machine_code.specs.Code.{procedure_words, code_words, nodes_at, procedure_at}
 use Rattle.gil.specs.Numbers.{most_commands, most_procedures, most_properties, most_variables}
