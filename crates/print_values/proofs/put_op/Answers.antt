@@ -1,5 +1,6 @@
 -- `values::put_op` meets its contract. Assumes nothing.
 use Rattle.std.proofs.Common.{◌≢◌, arith, ne_eqb}
+use Rattle.gil.specs.Numbers.{plus_kind, minus_kind, equal_kind, less_kind, and_kind}
 use Rattle.gil.specs.Text.{bytes}
 use Rattle.print_values.specs.Mirror.{op_form}
 use Rattle.print_values.proofs.put_op.Goals as goal
@@ -27,9 +28,9 @@ returns-in-7 c = rw c.in-7.is c.put_all-in-7.ensures
 pub returns-in_default : goal.returns-in_default
 unfolding op_form bytes
 returns-in_default c =
-    let plus : c.args.kind ≢ 3 = omega arith in
-    let minus : c.args.kind ≢ 4 = omega arith in
-    let equal : c.args.kind ≢ 5 = omega arith in
-    let less : c.args.kind ≢ 6 = omega arith in
-    let and : c.args.kind ≢ 7 = omega arith in
+    let plus : c.args.kind ≢ plus_kind = omega arith in
+    let minus : c.args.kind ≢ minus_kind = omega arith in
+    let equal : c.args.kind ≢ equal_kind = omega arith in
+    let less : c.args.kind ≢ less_kind = omega arith in
+    let and : c.args.kind ≢ and_kind = omega arith in
     simp (ne_eqb _ _ plus, ne_eqb _ _ minus, ne_eqb _ _ equal, ne_eqb _ _ less, ne_eqb _ _ and) c.put_all-in_default.ensures
