@@ -1,21 +1,22 @@
-// Text and numbers on standard output, and what is known of a part of lent memory.
-use libc::STDOUT_FILENO;
+// Text and numbers on a writer, and what is known of a part of lent memory.
+use std::io;
+use std::io::Write;
 
 // The byte that fills a buffer before it is lent.
 pub const FILLED: u8 = 165;
 
-pub fn text(s: &[u8]) {
-    io::write_all(STDOUT_FILENO, s);
+pub fn text<W: Write>(out: &mut W, s: &[u8]) -> io::Result<()> {
+    out.write_all(s)
 }
 
-pub fn number(n: u32) {
-    io::print_decimal(STDOUT_FILENO, n as u64);
+pub fn number<W: Write>(out: &mut W, n: u32) -> io::Result<()> {
+    write!(out, "{n}")
 }
 
 // A number after some text.
-pub fn named(before: &[u8], n: u32) {
-    text(before);
-    number(n);
+pub fn named<W: Write>(out: &mut W, before: &[u8], n: u32) -> io::Result<()> {
+    text(out, before)?;
+    number(out, n)
 }
 
 // Whether every byte from a place on is as before the call.

@@ -8,6 +8,8 @@ use gil::layout::{HEADING_BYTES, POOL_BYTES, ROW_BYTES, TABLE_BYTES, TERM_BYTES}
 use gil::limits::{MOST_ROWS, MOST_TERMS};
 use gil::numbers;
 use lent_words::at_most;
+use std::io;
+use std::io::Write;
 
 const HEADING: u32 = HEADING_BYTES as u32;
 
@@ -35,23 +37,24 @@ fn row_at(i: u32) -> u32
     HEADING + ROW * i
 }
 
-fn row_line(table: &[u8], i: u32)
+fn row_line<W: Write>(out: &mut W, table: &[u8], i: u32) -> io::Result<()>
     requires { i < 64 }
 {
-    named(b"  row ", i);
-    text(b": ");
-    row(table, row_at(i));
-    text(b"\n");
+    named(out, b"  row ", i)?;
+    text(out, b": ")?;
+    row(out, table, row_at(i))?;
+    text(out, b"\n")
 }
 
-fn rows(table: &[u8], n: u32)
+fn rows<W: Write>(out: &mut W, table: &[u8], n: u32) -> io::Result<()>
     requires { n ≤ 64 }
 {
     for i in 0..n {
         if is_shown(i, n, 20) {
-            row_line(table, i);
+            row_line(out, table, i)?;
         }
     }
+    Ok(())
 }
 
 // What a term is, by a sign: an input, `not`, `and` and `or` by #, !, & and |.
@@ -70,25 +73,26 @@ fn sign(kind: u32) -> u8 {
 }
 
 // A term: what it is, and its operands as values.
-fn term_line(pool: &[u8], i: u32)
+fn term_line<W: Write>(out: &mut W, pool: &[u8], i: u32) -> io::Result<()>
     requires { i < 2048 }
 {
     let at = TERM * i;
-    named(b"  term ", i);
-    text(&[b':', b' ', sign(word(pool, at, 0))]);
-    value_at(b" ", pool, at, 1);
-    value_at(b" ", pool, at, 3);
-    text(b"\n");
+    named(out, b"  term ", i)?;
+    text(out, &[b':', b' ', sign(word(pool, at, 0))])?;
+    value_at(out, b" ", pool, at, 1)?;
+    value_at(out, b" ", pool, at, 3)?;
+    text(out, b"\n")
 }
 
-fn terms(pool: &[u8], n: u32)
+fn terms<W: Write>(out: &mut W, pool: &[u8], n: u32) -> io::Result<()>
     requires { n ≤ 2048 }
 {
     for i in 0..n {
         if is_shown(i, n, 40) {
-            term_line(pool, i);
+            term_line(out, pool, i)?;
         }
     }
+    Ok(())
 }
 
 // Whether in each of the first n rows every word that holds nothing is zero.
@@ -125,23 +129,24 @@ fn all_rest_zero(table: &[u8], pool: &[u8], rows: u32, terms: u32) -> bool
 }
 
 // How many rows and terms there are.
-pub fn counts(table: &[u8], pool: &[u8]) {
+pub fn counts<W: Write>(out: &mut W, table: &[u8], pool: &[u8]) -> io::Result<()> {
     let rows = word(table, 0, 0);
     let terms = word(table, 0, 1);
-    named(b", rows ", rows);
-    named(b", terms ", terms);
+    named(out, b", rows ", rows)?;
+    named(out, b", terms ", terms)?;
     if !all_rest_zero(
         table,
         pool,
         at_most(MOST_ROWS, rows),
         at_most(MOST_TERMS, terms),
     ) {
-        text(b", NOT ZERO where it holds nothing");
+        text(out, b", NOT ZERO where it holds nothing")?;
     }
+    Ok(())
 }
 
 // The rows and the terms.
-pub fn table(table: &[u8], pool: &[u8]) {
-    rows(table, at_most(MOST_ROWS, word(table, 0, 0)));
-    terms(pool, at_most(MOST_TERMS, word(table, 0, 1)));
+pub fn table<W: Write>(out: &mut W, table: &[u8], pool: &[u8]) -> io::Result<()> {
+    rows(out, table, at_most(MOST_ROWS, word(table, 0, 0)))?;
+    terms(out, pool, at_most(MOST_TERMS, word(table, 0, 1)))
 }
