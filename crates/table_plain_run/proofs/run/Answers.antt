@@ -1,0 +1,18 @@
+-- `run::run` meets its contract. Assumes nothing.
+use lib.ListN.{drop, length-append, length-drop}
+use Rattle.machine_cells.specs.Laws.Served.{no_cells}
+use Rattle.table_plain_run.specs.Steps.{answers}
+use native.Mathlib.Omega.{arith}
+use mathlib.Core.Path.{◌∙◌, ◌≡◌, sym, refl}
+use lib.Seq.{length-take-le}
+use lib.ListN.{length}
+use borrow.Author.Rules.{rules}
+use Rattle.table_plain_run.proofs.run.Goals as goal
+
+pub follow-f-requires : goal.follow-f-requires
+follow-f-requires c = no_cells _ (search rules)
+
+pub returns-clause-answered : goal.returns-clause-answered
+returns-clause-answered c h =
+    answers _ _ _ _ c.follow-f.result h c.zero.ensures c.start.ensures c.start_store.ensures c.follow-f.ensures.count_after c.follow-f.ensures.tidy.few
+    c.follow-f.ensures.tidy.whole c.head.ensures c.write_row.ensures
