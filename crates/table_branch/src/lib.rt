@@ -19,7 +19,7 @@ pub const CONDITIONS: usize = MOST_BRANCHES as usize;
 
 // A branch that waits: where it stands, the steps and branches so far, and how many cells are in use. Its conditions, its store and its cells
 // go beside it, the store lent, so that each is copied once.
-#[derive(Drop)]
+#[derive(Clone, Copy)]
 pub struct Branch {
     pub control: Control,
     pub steps: u32,
