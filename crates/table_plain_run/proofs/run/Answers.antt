@@ -14,5 +14,5 @@ follow-f-requires c = no_cells _ (search rules)
 
 pub returns-clause-answered : goal.returns-clause-answered
 returns-clause-answered c h =
-    answers _ _ _ _ c.follow-f.result h c.zero.ensures c.start.ensures c.start_store.ensures c.follow-f.ensures.count_after c.follow-f.ensures.tidy.few
-    c.follow-f.ensures.tidy.whole c.head.ensures c.write_row.ensures
+    answers _ _ _ _ c.follow-f.result h c.zero.ensures c.start.ensures c.start_store-store.ensures c.follow-f.ensures.count_after c.follow-f.ensures.tidy.few
+    c.follow-f.ensures.tidy.whole c.head-head.ensures c.write_row.ensures
