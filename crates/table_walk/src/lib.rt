@@ -18,7 +18,7 @@ use table_path as path;
 
 const INPUTS: usize = MOST_INPUTS as usize;
 
-#[derive(Drop)]
+#[derive(Clone, Copy)]
 pub struct Budgets {
     pub steps: u32,
     pub branches: u32,
