@@ -1,7 +1,6 @@
 -- What reading a text promises. Assumes nothing.
 use Rattle.std.specs.Prelude.{ℕ, ◌<◌, ◌≡◌, List, map, length, take, get_or, set}
 use Rattle.gil.specs.Text.{bytes}
-use Rattle.gil.specs.Reading.{procedures}
 use Rattle.gil.specs.Names.{place_of, Program, accepted, check_text}
 use Rattle.gil.specs.Calls.{check_call}
 use Rattle.gil.specs.Machine.{procedure_at}
