@@ -1,0 +1,9 @@
+-- `call_explore::tables::explore` meets its contract. Assumes nothing.
+use lib.Seq.{length-take-le}
+use mathlib.Core.Path.{sym}
+use Rattle.call_explore.specs.Steps.{leaves}
+use borrow.Author.Rules.{rules}
+use Rattle.call_explore.proofs.tables.explore.Goals as goal
+
+pub returns : goal.returns
+returns c = leaves _ _ _ _ _ c.explore.ensures
