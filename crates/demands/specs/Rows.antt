@@ -49,6 +49,7 @@ around (further {b = b} s) =
     record { before = b ∷ r.before; behind = r.behind; is = ap (λ (t : List _). b ∷ t) r.is; long = ap suc r.long }
 
 pub each_at : {A : Type 0} {P : A → Type 0} {k : ℕ} {a : A} {l : List A} → Each P l → Stands k a l → P a
+each_at WellFormed.none s = elim s [ ]
 each_at (WellFormed.more p ps) here = p
 each_at (WellFormed.more p ps) (further s) = each_at ps s
 
