@@ -22,7 +22,7 @@ use Rattle.table_locate.specs.Laws.Inputs.{Bytes}
 use Rattle.table_locate.proofs.Laws.Terms.{ValuesAs, values_as}
 use Rattle.table_locate.proofs.Laws.Rows.{RowAt, row_at, row_count, term-count, row-holds, length-row, head-word}
 use Rattle.demands.specs.FromBytes.{rows_in, words_at, row_in, steps_in, values_in, meets_row, put_row, put_in_bytes}
-use Rattle.demands.specs.PutIn.{row_put, answer-steps}
+use Rattle.demands.proofs.PutIn.{row_put, answer-steps}
 
 -- words read one after another
 words-read :
