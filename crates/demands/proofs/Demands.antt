@@ -1,7 +1,7 @@
 -- THE THREE DEMANDS hold of the calls: for each record of specs/Demands.antt the theorem that the calls of document 01's definitions meet it,
 -- what follows of the exported calls (`demanded`, below), and that the demands leave no freedom. Read specs/Demands.antt first. The proofs are
 -- in Orders, Texts, Overruns and Refusals (1 and 2), PutIn, Rows and Accounted (3), Determined. Nothing is assumed.
-use Rattle.std.specs.Prelude.{ℕ, ◌≤◌, ◌≡◌, false, List, ◌++◌, map, length}
+use Rattle.std.specs.Prelude.{ℕ, ◌≡◌, false, List, ◌++◌, map, length}
 use Rattle.std.proofs.Common.{sym, subst}
 use Rattle.gil.specs.Names.{Program, accepted, check_text}
 use Rattle.gil.specs.Rows.{Path, Row, cut_for, steps}
