@@ -1,11 +1,3 @@
 pub mod Demands
 pub mod Reasons
-pub mod Orders
 pub mod FromBytes
-pub mod Texts
-pub mod Overruns
-pub mod Refusals
-pub mod Determined
-pub mod PutIn
-pub mod Rows
-pub mod Accounted

@@ -1,3 +1,2 @@
-// The three demands on the calls stand in specs/Demands.antt, with their proofs; this crate has no code of its own.
+// The three demands on the calls stand in specs/Demands.antt; proofs/Demands.antt proves that the calls meet them. There is no code here.
 #![tactic(auto)]
-

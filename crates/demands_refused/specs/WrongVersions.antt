@@ -27,12 +27,12 @@ use Rattle.gil.specs.Calls.{PlainAnswer, TableAnswer}
 use Rattle.gil.specs.Promises.{check, plain_run, explore, place, Version}
 use Rattle.machine_code.specs.WellFormed.{none, more}
 use Rattle.demands.specs.Reasons.{CheckReason, PlainReason, ExploreReason, PlaceReason}
-use Rattle.demands.specs.Refusals.{check-refuses, plain-refuses, plain_runs, sound-table, placed_row, explore-refuses, explore-explores, place-refuses}
-use Rattle.demands.specs.Determined.{ran_as, explored_as}
+use Rattle.demands.proofs.Refusals.{check-refuses, plain-refuses, plain_runs, sound-table, placed_row, explore-refuses, explore-explores, place-refuses}
+use Rattle.demands.proofs.Determined.{ran_as, explored_as}
 use Rattle.demands.specs.FromBytes.{rows_in, steps_in, meets_row, put_in_bytes, OneRow}
-use Rattle.demands.specs.Rows.{each_at, stands_at, rows-read, meets-read, steps-read, put-read}
+use Rattle.demands.proofs.Rows.{each_at, stands_at, rows-read, meets-read, steps-read, put-read}
 use Rattle.demands_refused.specs.Examples.{text8, program8, row8, text_a, terms_a, row_a, row_a', inputs38, text_many, computed}
-use Rattle.demands.specs.Orders.{first_holds}
+use Rattle.demands.proofs.Orders.{first_holds}
 use Rattle.demands.specs.Demands.{Demand1, Demand2, Demand3}
 use Rattle.lent_words.specs.Mirror.{word_at}
 use Rattle.table_locate.specs.Laws.Inputs.{Bytes}

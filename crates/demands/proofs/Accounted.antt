@@ -21,10 +21,10 @@ use Rattle.lent_words.specs.Mirror.{word_at}
 use Rattle.table_locate.specs.Laws.Sound.{Sound}
 use Rattle.table_locate.specs.Laws.Inputs.{Bytes}
 use Rattle.demands.specs.Reasons.{of_budgets, of_lists, of_text, of_exploring, PlainReason, ExploreReason, PlaceReason, ExploresAs}
-use Rattle.demands.specs.Refusals.{sound-table, plain_runs, explore-refuses, explore-explores, place-explores}
-use Rattle.demands.specs.Determined.{ran_as, explored_as, same_tables}
+use Rattle.demands.proofs.Refusals.{sound-table, plain_runs, explore-refuses, explore-explores, place-explores}
+use Rattle.demands.proofs.Determined.{ran_as, explored_as, same_tables}
 use Rattle.demands.specs.FromBytes.{rows_in, steps_in, meets_row, put_in_bytes, OneRow}
-use Rattle.demands.specs.Rows.{Found, rows-read, meets-read, steps-read, put-read, accounted-found}
+use Rattle.demands.proofs.Rows.{Found, rows-read, meets-read, steps-read, put-read, accounted-found}
 
 -- Arguments that are not refused
 inputs-right : (inputs : List ℕ) → length inputs ≡ inputs_length → Calls.wrong_inputs inputs ≡ false

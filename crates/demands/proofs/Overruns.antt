@@ -6,7 +6,7 @@ use Rattle.std.proofs.Math.Path.{refl, ap}
 use Rattle.std.proofs.Math.Logic.{inl, inr}
 use borrow.Author.Tests.{ltb-true, ltb-false, leb-true, leb-false, lt-ltb, le-ltb, le-leb, lt-leb}
 use Rattle.gil.specs.Numbers.{most_rows, most_terms, for_rows, for_terms}
-use Rattle.gil.specs.Names.{Program, refused, accepted, check_text}
+use Rattle.gil.specs.Names.{Program, accepted, check_text}
 use Rattle.gil.specs.Rows.{Path, Row, cut_for, steps}
 use Rattle.gil.specs.Explore as Explore
 use Rattle.gil.specs.Explore.{Turn, finishes, goes, forks, Explored, explored, Exploring, stopped, exploring, finish, waiting_on, on_turn, overfull, after_move, advance, after_commands}

@@ -12,7 +12,7 @@ use Rattle.gil.specs.Reading.{Read, faulty, read, procedures}
 use Rattle.gil.specs.Names.{Program, Checked, refused, accepted, over_limits, wrong_names, wrong_jump, wrong_end, refused_if, tested, check_text}
 use Rattle.gil.proofs.Theory.Tests.{chosen, no_false}
 use Rattle.demands.specs.Reasons.{TextReason, too_long, not_of_the_form, over_aLimit, wrong_name, jumps_past, ends_open}
-use Rattle.demands.specs.Orders.{Lowest}
+use Rattle.demands.proofs.Orders.{Lowest}
 
 pub text_range : {text : List ℕ} {n : ℕ} → TextReason text n → (for_length ≤ n) × (n ≤ for_end)
 text_range (too_long h) = omega arith

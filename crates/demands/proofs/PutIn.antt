@@ -9,7 +9,7 @@ use Rattle.std.proofs.Math.Option.{Option, none, some}
 use Rattle.std.proofs.Math.ListN.{length, replicate}
 use Rattle.std.proofs.lemmas.List.{length-map}
 use Rattle.gil.specs.Names.{gather}
-use Rattle.gil.specs.Values.{Constant, location, Value, const}
+use Rattle.gil.specs.Values.{Constant, Value, const}
 use Rattle.gil.specs.Machine.{Cell, returned, failed, vanished, error}
 use Rattle.gil.specs.Rows.{steps, branches, Outcome, ended, cut, Row}
 use Rattle.gil.specs.Pool.{Ref, numberTerm, booleanTerm, place_in, Pool, value_of}

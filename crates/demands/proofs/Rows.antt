@@ -22,7 +22,7 @@ use Rattle.table_locate.specs.Laws.Inputs.{Bytes}
 use Rattle.table_locate.proofs.Laws.Terms.{ValuesAs, values_as}
 use Rattle.table_locate.proofs.Laws.Rows.{RowAt, row_at, row_count, term-count, row-holds, length-row, head-word}
 use Rattle.demands.specs.FromBytes.{rows_in, words_at, row_in, steps_in, values_in, meets_row, put_row, put_in_bytes}
-use Rattle.demands.specs.PutIn.{row_put, answer-steps}
+use Rattle.demands.proofs.PutIn.{row_put, answer-steps}
 
 -- words read one after another
 words-read :
@@ -49,6 +49,7 @@ around (further {b = b} s) =
     record { before = b ∷ r.before; behind = r.behind; is = ap (λ (t : List _). b ∷ t) r.is; long = ap suc r.long }
 
 pub each_at : {A : Type 0} {P : A → Type 0} {k : ℕ} {a : A} {l : List A} → Each P l → Stands k a l → P a
+each_at WellFormed.none s = elim s [ ]
 each_at (WellFormed.more p ps) here = p
 each_at (WellFormed.more p ps) (further s) = each_at ps s
 

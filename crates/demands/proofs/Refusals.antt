@@ -1,6 +1,6 @@
 -- The definitions of the calls refuse by the first reason that holds, and come to the definitions' answers where none does: the proofs
 -- behind demands 1 and 2. Assumes nothing.
-use Rattle.std.specs.Prelude.{ℕ, zero, suc, ◌+◌, ◌-◌, ◌≤◌, ◌<◌, Bool, List, ◌++◌, length, drop, replicate}
+use Rattle.std.specs.Prelude.{ℕ, suc, ◌+◌, ◌-◌, ◌≤◌, ◌<◌, Bool, List, ◌++◌, length, drop, replicate}
 use native.Mathlib.Omega.{arith}
 use Rattle.std.proofs.Math.Path.{◌≡◌, refl, sym}
 use Rattle.std.proofs.Common.{◌∙◌, subst, inl, inr}
@@ -21,11 +21,11 @@ use Rattle.gil.specs.Calls.{first_of, TableAnswer, PlainAnswer}
 use Rattle.machine_code.proofs.Accepted.{accepted_well_formed}
 use Rattle.table_locate.specs.Laws.Sound.{Sound}
 use Rattle.table_locate.specs.Laws.Exploring.{exploring-sound}
-use Rattle.demands.specs.Rows.{stands-below}
+use Rattle.demands.proofs.Rows.{stands-below}
 use Rattle.demands.specs.Reasons.{TextReason, Overrun, after, Never, Reason, of_budgets, of_lists, of_text, of_exploring, PlainReason, ExploreReason, PlaceReason, Zero, ARow, text_refusals, plain_refusals, explore_refusals, First, Refuses, Leaves, RunsAs, ExploresAs}
-use Rattle.demands.specs.Orders.{first_holds, first-same, Lowest, rising, lowest_first}
-use Rattle.demands.specs.Texts.{text_range, TextOutcome, is_wrong, is_right, text-outcome}
-use Rattle.demands.specs.Overruns.{table_overruns, overruns_range, overrun-table, overrun_late}
+use Rattle.demands.proofs.Orders.{first_holds, first-same, Lowest, rising, lowest_first}
+use Rattle.demands.proofs.Texts.{text_range, TextOutcome, is_wrong, is_right, text-outcome}
+use Rattle.demands.proofs.Overruns.{table_overruns, overruns_range, overrun-table, overrun_late}
 
 -- what a call comes to: refused by the first reason, or a success with none
 pub data Outcome (R : ℕ → Type 0) (order : List ℕ) (Success : ℕ → Type 0) (returns : ℕ) : Type 0 where

@@ -11,7 +11,7 @@ use Rattle.gil.specs.Numbers.{for_end, for_terms, table_length, pool_length, ans
 use Rattle.gil.specs.Layout.{table_bytes, pool_bytes, answer_bytes, input_words}
 use Rattle.gil.specs.Calls.{PlainAnswer, TableAnswer}
 use Rattle.demands.specs.Reasons.{Zero, First, Refuses, Leaves, RunsAs, ExploresAs}
-use Rattle.demands.specs.Orders.{first_holds, first-same}
+use Rattle.demands.proofs.Orders.{first_holds, first-same}
 
 -- answers are what they hold
 plain-eq : {a b : PlainAnswer} → a.returns ≡ b.returns → a.answer ≡ b.answer → a ≡ b
