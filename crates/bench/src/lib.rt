@@ -1,6 +1,6 @@
-// The calls that C sees: each is the call of its name in a crate of its own, and has its contract. A promise cites document 01's definitions
-// alone (crates/gil/specs/Promises.antt, Calls.antt), and asks nothing. A call tests what it was given "in the order tested", and writes nothing
-// before its last test. What each number refuses, in document 01's words:
+// The calls, each under the name that C knows it by (crates/bench_c exports them): each is the call of its name in a crate of its own, and has
+// its contract. A promise cites document 01's definitions alone (crates/gil/specs/Promises.antt, Calls.antt), and asks nothing. A call tests
+// what it was given "in the order tested", and writes nothing before its last test. What each number refuses, in document 01's words:
 //   1   "explore/place: steps not 1 to 1,024, or branches above 16; plain run: steps above 1,024"
 //   2   "a lent buffer is shorter than the call needs, or the input list is not sixteen long"
 //   3   "text longer than 16,384 bytes"
@@ -16,21 +16,14 @@
 ghost use Rattle.gil.specs.Promises.{Promise, check, plain_run, explore, place};
 
 // check: 0 where a text is accepted, or its refusal, 3 to 8
-#[unsafe(no_mangle)]
-pub extern "C" fn chomphurek_check(text: &[u8]) -> u32
+pub fn chomphurek_check(text: &[u8]) -> u32
     ensures { Promise (check text.now) result }
 {
     call_check::check(text)
 }
 
 // plain run: 0, and the answer's first 1,024 bytes are those of the run on the sixteen inputs; or 1 to 8, and the answer is untouched
-#[unsafe(no_mangle)]
-pub extern "C" fn chomphurek_plain_run(
-    text: &[u8],
-    inputs: &[u8],
-    steps: u32,
-    answer: &mut [u8],
-) -> u32
+pub fn chomphurek_plain_run(text: &[u8], inputs: &[u8], steps: u32, answer: &mut [u8]) -> u32
     ensures { Promise (plain_run text.now inputs.now steps answer.old) (record { returns = result; answer = answer.new }) }
 {
     call_plain_run::plain_run(text, inputs, steps, answer)
@@ -38,8 +31,7 @@ pub extern "C" fn chomphurek_plain_run(
 
 // explore: 0, and table and pool hold the rows and their terms; 1 to 8, and both are untouched; or 9 or 10, and the needed part of both
 // is zero
-#[unsafe(no_mangle)]
-pub extern "C" fn chomphurek_explore(
+pub fn chomphurek_explore(
     text: &[u8],
     steps: u32,
     branches: u32,
@@ -52,8 +44,7 @@ pub extern "C" fn chomphurek_explore(
 }
 
 // place: 256 more than the number of the row that the inputs fall in, and table and pool as explore leaves them; or 1 to 10, as explore
-#[unsafe(no_mangle)]
-pub extern "C" fn chomphurek_place(
+pub fn chomphurek_place(
     text: &[u8],
     inputs: &[u8],
     steps: u32,

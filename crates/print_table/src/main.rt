@@ -3,71 +3,47 @@
 // after them, so no more is read.
 #![tactic(auto)]
 
-ghost use Rattle.std.specs.Prelude.{◌+◌, ◌≤◌, length};
-ghost use Rattle.io.specs.Counts.{IsPrefixLen};
+ghost use Rattle.std.specs.Prelude.{◌+◌, ◌≤◌, length, IfOk};
+ghost use Rattle.std.specs.Io.{ReadsAtMost};
 
 use gil::limits::MOST_BYTES;
-use libc::{STDIN_FILENO, STDOUT_FILENO};
 use print_text as printed;
+use std::io;
+use std::io::Read;
 
 const ROOM: usize = MOST_BYTES + 1;
 
-// What reading came to: so many bytes, and whether it failed after them
-#[derive(Drop)]
-struct Input {
-    bytes: usize,
-    failed: bool,
-}
-
-// One read, into `text` from place n on
-fn read_on(text: &mut [u8], n: usize) -> Input
+// One read, into `text` from place n on: how many bytes it gave
+fn read_on<R: Read>(input: &mut R, text: &mut [u8], n: usize) -> io::Result<usize>
     requires { n ≤ length text.old }
-    ensures { n + result.bytes ≤ length text.new }
+    ensures { IfOk result (λ more. n + more ≤ length text.new) }
 {
-    let got = libc::read(STDIN_FILENO, &mut text[n..]);
-    let bytes = io::count(got, &text[n..]);
-    Input {
-        bytes: bytes,
-        failed: got < 0,
-    }
+    input.read(&mut text[n..])
 }
 
-// Reads until the input ends, the room is full or a read fails.
-fn read_text(text: &mut [u8]) -> Input
-    ensures { IsPrefixLen result.bytes text.new }
+// Reads until the input ends, the room is full or a read fails: how many bytes stand at the start of `text`
+fn read_text<R: Read>(input: &mut R, text: &mut [u8]) -> io::Result<usize>
+    ensures { ReadsAtMost result text.new }
 {
     let mut n = 0;
     while n < text.len() {
-        let more = read_on(text, n);
-        if more.bytes == 0 {
-            return Input {
-                bytes: n,
-                failed: more.failed,
-            };
+        let more = read_on(input, text, n)?;
+        if more == 0 {
+            return Ok(n);
         }
-        n += more.bytes;
+        n += more;
     }
-    Input {
-        bytes: n,
-        failed: false,
-    }
+    Ok(n)
 }
 
-fn print(text: &[u8]) {
+fn print(rt: &impl Print, text: &[u8]) -> io::Result<()> {
     let mut out = [0u8; printed::PRINTED_BYTES];
     let end = printed::print_table(text, &mut out);
-    if !io::write_all(STDOUT_FILENO, &out[..end]) {
-        os::fail(b"standard output");
-    }
+    rt.write_all(&out[..end])
 }
 
-fn main() {
+fn main(rt: HostRuntime) -> io::Result<()> {
     let mut text = [0u8; ROOM];
-    let input = read_text(&mut text);
-    if input.failed {
-        os::fail(b"standard input");
-        return;
-    }
-    let n = input.bytes;
-    print(&text[..n]);
+    let n = read_text(&mut rt.reader(), &mut text)?;
+    print(&rt, &text[..n])
 }

@@ -1,15 +1,18 @@
 // Vectors of check: one argument, the file of the text.
 ghost use Rattle.std.specs.Prelude.{◌<◌};
 
-use crate::given::file;
+use crate::given::{LARGE, file};
+use std::io;
+use std::io::Write;
+use std::rt::{Env, Files};
 use vectors_shown::bytes::{number, text};
 
 // The vector whose arguments begin at i.
-pub fn vector(i: usize)
+pub fn vector<R: Env + Files, W: Write>(rt: &R, out: &mut W, i: usize) -> io::Result<()>
     requires { i < 131072 }
 {
-    let mut program = io::large_buffer();
-    let n = file(i, &mut program);
-    number(bench::chomphurek_check(&program[..n]));
-    text(b"\n");
+    let mut program = [0u8; LARGE];
+    let n = file(rt, out, i, &mut program)?;
+    number(out, bench::chomphurek_check(&program[..n]))?;
+    text(out, b"\n")
 }

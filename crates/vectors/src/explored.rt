@@ -2,39 +2,43 @@
 // and the lengths of the buffers lent for table and pool.
 ghost use Rattle.std.specs.Prelude.{◌<◌, ◌≡◌, length};
 
-use crate::given::{decimal, file};
+use crate::given::{LARGE, SMALL, decimal, file};
 use gil::layout::{POOL_BYTES, TABLE_BYTES};
 use gil::numbers::{FIRST_ROW, FOR_ROWS};
+use std::io;
+use std::io::Write;
+use std::rt::{Env, Files};
 use vectors_shown::bytes::{FILLED, kept, number, text, zero};
 use vectors_shown::tables;
 
 // The memory after a refusal: all zero in the needed part after 9 and 10, and else untouched.
-fn refused(code: u32, table: &[u8], pool: &[u8]) {
+fn refused<W: Write>(out: &mut W, code: u32, table: &[u8], pool: &[u8]) -> io::Result<()> {
     if code < FOR_ROWS {
         if !kept(table, 0) {
-            text(b", table TOUCHED");
+            text(out, b", table TOUCHED")?;
         }
         if !kept(pool, 0) {
-            text(b", pool TOUCHED");
+            text(out, b", pool TOUCHED")?;
         }
-        return;
+        return Ok(());
     }
     if !zero(table, 0, TABLE_BYTES) {
-        text(b", table NOT ZERO");
+        text(out, b", table NOT ZERO")?;
     }
     if !zero(pool, 0, POOL_BYTES) {
-        text(b", pool NOT ZERO");
+        text(out, b", pool NOT ZERO")?;
     }
+    Ok(())
 }
 
-fn surplus(table: &[u8], pool: &[u8]) {
+fn surplus<W: Write>(out: &mut W, table: &[u8], pool: &[u8]) -> io::Result<()> {
     if !kept(table, TABLE_BYTES) {
-        text(b", surplus of the table CHANGED");
+        text(out, b", surplus of the table CHANGED")?;
     }
     if !kept(pool, POOL_BYTES) {
-        text(b", surplus of the pool CHANGED");
+        text(out, b", surplus of the pool CHANGED")?;
     }
-    text(b"\n");
+    text(out, b"\n")
 }
 
 fn is_refusal(code: u32) -> bool {
@@ -45,16 +49,16 @@ fn is_refusal(code: u32) -> bool {
 }
 
 // What the buffers hold after the call; before it they were filled.
-fn answered(code: u32, table: &[u8], pool: &[u8]) {
-    text(b"= ");
-    number(code);
+fn answered<W: Write>(out: &mut W, code: u32, table: &[u8], pool: &[u8]) -> io::Result<()> {
+    text(out, b"= ")?;
+    number(out, code)?;
     if is_refusal(code) {
-        refused(code, table, pool);
-        surplus(table, pool);
+        refused(out, code, table, pool)?;
+        surplus(out, table, pool)
     } else {
-        tables::counts(table, pool);
-        surplus(table, pool);
-        tables::table(table, pool);
+        tables::counts(out, table, pool)?;
+        surplus(out, table, pool)?;
+        tables::table(out, table, pool)
     }
 }
 
@@ -119,32 +123,40 @@ fn filled_pool() -> [u8; 41024]
     [FILLED; 41024]
 }
 
-fn run(program: &[u8], inputs: &[u8], steps: u32, branches: u32, lent: Lent) {
+fn run<W: Write>(
+    out: &mut W,
+    program: &[u8],
+    inputs: &[u8],
+    steps: u32,
+    branches: u32,
+    lent: Lent,
+) -> io::Result<()> {
     let mut table = filled_table();
     let mut pool = filled_pool();
     let code = lend(
         program, inputs, steps, branches, lent, &mut table, &mut pool,
     );
-    answered(code, &table, &pool);
+    answered(out, code, &table, &pool)
 }
 
 // The vector whose arguments begin at i.
-pub fn vector(i: usize)
+pub fn vector<R: Env + Files, W: Write>(rt: &R, out: &mut W, i: usize) -> io::Result<()>
     requires { i < 131072 }
 {
-    let mut program = io::large_buffer();
-    let n = file(i, &mut program);
-    let mut inputs = io::buffer();
-    let m = file(i + 1, &mut inputs);
-    let steps = decimal(i + 2);
-    let branches = decimal(i + 3);
-    let table = decimal(i + 4) as usize;
-    let pool = decimal(i + 5) as usize;
+    let mut program = [0u8; LARGE];
+    let n = file(rt, out, i, &mut program)?;
+    let mut inputs = [0u8; SMALL];
+    let m = file(rt, out, i + 1, &mut inputs)?;
+    let steps = decimal(rt, out, i + 2)?;
+    let branches = decimal(rt, out, i + 3)?;
+    let table = decimal(rt, out, i + 4)? as usize;
+    let pool = decimal(rt, out, i + 5)? as usize;
     run(
+        out,
         &program[..n],
         &inputs[..m],
         steps,
         branches,
         Lent { table, pool },
-    );
+    )
 }

@@ -1,41 +1,73 @@
 // The program's arguments: the names of calls and of files, and numbers. Each is printed where it is read, so that a vector's line begins with what
 // it was given.
-ghost use Rattle.io.specs.Counts.{IsPrefixLen};
 ghost use Rattle.std.specs.Prelude.{◌<◌};
+ghost use Rattle.std.specs.Io.{ReadsAtMost};
 
+use std::env::FillError;
+use std::io::{Read, Write};
+use std::rt::{Env, Files};
+use std::{fs, io};
 use vectors_shown::bytes::text;
 
-// Puts what a file holds at the start of buf, as much as it has room for, and answers how many bytes.
-fn read(path: &[u8], buf: &mut [u8]) -> usize
-    ensures { IsPrefixLen result buf.new }
-{
-    let fd = os::open_read(path);
-    if fd < 0 {
-        os::fail(path);
-        return io::count(0, buf);
-    }
-    let n = io::read_full(fd, buf);
-    libc::close(fd);
-    n
+// room for an argument, or for an input list
+pub const SMALL: usize = 4096;
+
+// room for a handler's text, and more than any that is accepted
+pub const LARGE: usize = 65536;
+
+// Whether there is an argument i.
+pub fn is_given<R: Env>(rt: &R, i: usize) -> bool {
+    !matches!(rt.arg(i, &mut []), Err(FillError::NotPresent))
 }
 
-// Puts argument i at the start of buf, prints it, and answers how many bytes it has.
-fn word(i: usize, buf: &mut [u8]) -> usize
-    ensures { IsPrefixLen result buf.new }
+// Reads until buf is full or the file ends, and answers how many bytes stand at the start of buf.
+fn read_full<F: Read>(file: &mut F, buf: &mut [u8]) -> io::Result<usize>
+    ensures { ReadsAtMost result buf.new }
 {
-    let length = os::arg(i, buf);
-    text(&buf[..length]);
-    text(b" ");
-    length
+    let mut done = 0;
+    while done < buf.len() {
+        let n = file.read(&mut buf[done..])?;
+        if n == 0 {
+            return Ok(done);
+        }
+        done += n;
+    }
+    Ok(done)
+}
+
+// Puts what a file holds at the start of buf, as much as it has room for, and answers how many bytes.
+fn read<R: Files>(rt: &R, path: &[u8], buf: &mut [u8]) -> io::Result<usize>
+    ensures { ReadsAtMost result buf.new }
+{
+    let Ok(path) = str::from_utf8(path) else {
+        return Err(io::Error::from(io::ErrorKind::InvalidInput));
+    };
+    let mut file = fs::open(rt, path)?;
+    read_full(&mut file, buf)
+}
+
+// Puts argument i at the start of buf, prints it, and answers how many bytes it has: none where it is missing or has no room.
+fn word<R: Env, W: Write>(rt: &R, out: &mut W, i: usize, buf: &mut [u8]) -> io::Result<usize>
+    ensures { ReadsAtMost result buf.new }
+{
+    let length = rt.arg(i, buf).unwrap_or(0);
+    text(out, &buf[..length])?;
+    text(out, b" ")?;
+    Ok(length)
 }
 
 // Argument i names a file: puts what it holds at the start of buf, and answers how many bytes.
-pub fn file(i: usize, buf: &mut [u8]) -> usize
-    ensures { IsPrefixLen result buf.new }
+pub fn file<R: Env + Files, W: Write>(
+    rt: &R,
+    out: &mut W,
+    i: usize,
+    buf: &mut [u8],
+) -> io::Result<usize>
+    ensures { ReadsAtMost result buf.new }
 {
-    let mut path = io::buffer();
-    let length = word(i, &mut path);
-    read(&path[..length], buf)
+    let mut path = [0u8; SMALL];
+    let length = word(rt, out, i, &mut path)?;
+    read(rt, &path[..length], buf)
 }
 
 fn digit(b: u8) -> u64
@@ -59,18 +91,18 @@ fn value_of(s: &[u8]) -> u32 {
 }
 
 // Argument i is a number.
-pub fn decimal(i: usize) -> u32 {
-    let mut digits = io::buffer();
-    let length = word(i, &mut digits);
-    value_of(&digits[..length])
+pub fn decimal<R: Env, W: Write>(rt: &R, out: &mut W, i: usize) -> io::Result<u32> {
+    let mut digits = [0u8; SMALL];
+    let length = word(rt, out, i, &mut digits)?;
+    Ok(value_of(&digits[..length]))
 }
 
 // Argument i names a call: its first letter.
-pub fn letter(i: usize) -> u8 {
-    let mut name = io::buffer();
-    let length = word(i, &mut name);
+pub fn letter<R: Env, W: Write>(rt: &R, out: &mut W, i: usize) -> io::Result<u8> {
+    let mut name = [0u8; SMALL];
+    let length = word(rt, out, i, &mut name)?;
     if length == 0 {
-        return 0;
+        return Ok(0);
     }
-    name[0]
+    Ok(name[0])
 }

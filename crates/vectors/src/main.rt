@@ -8,36 +8,38 @@ mod explored;
 mod given;
 mod ran;
 
-ghost use Rattle.std.specs.Prelude.{◌<◌};
+ghost use Rattle.std.specs.Prelude.{◌<◌, IfOk};
+
+use std::io;
+use std::io::Write;
+use std::rt::{Env, Files};
 
 // The vector whose arguments begin at i; and where the next one's begin. Its first letter tells the call.
-fn vector(i: usize) -> usize
+fn vector<R: Env + Files, W: Write>(rt: &R, out: &mut W, i: usize) -> io::Result<usize>
     requires { i < 65536 }
-    ensures { i < result }
+    ensures { IfOk result (λ next. i < next) }
 {
-    match given::letter(i) {
+    match given::letter(rt, out, i)? {
         b'c' => {
-            checked::vector(i + 1);
-            i + 2
+            checked::vector(rt, out, i + 1)?;
+            Ok(i + 2)
         }
         b'r' => {
-            ran::vector(i + 1);
-            i + 5
+            ran::vector(rt, out, i + 1)?;
+            Ok(i + 5)
         }
         _ => {
-            explored::vector(i + 1);
-            i + 7
+            explored::vector(rt, out, i + 1)?;
+            Ok(i + 7)
         }
     }
 }
 
-fn main() {
-    let n = os::arg_count();
+fn main(rt: HostRuntime) -> io::Result<()> {
+    let mut out = rt.stdout();
     let mut i = 1;
-    while i < n {
-        if i >= 65536 {
-            return;
-        }
-        i = vector(i);
+    while i < 65536 && given::is_given(&rt, i) {
+        i = vector(&rt, &mut out, i)?;
     }
+    Ok(())
 }

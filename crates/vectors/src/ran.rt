@@ -2,27 +2,30 @@
 // the answer.
 ghost use Rattle.std.specs.Prelude.{◌<◌, ◌≡◌, length};
 
-use crate::given::{decimal, file};
+use crate::given::{LARGE, SMALL, decimal, file};
 use gil::layout::ANSWER_BYTES;
+use std::io;
+use std::io::Write;
+use std::rt::{Env, Files};
 use vectors_shown::bytes::{FILLED, kept, number, text};
 use vectors_shown::rows::row;
 
 // What the buffer holds after the call; before it was filled.
-fn answered(code: u32, answer: &[u8]) {
-    text(b"= ");
-    number(code);
-    text(b" ");
+fn answered<W: Write>(out: &mut W, code: u32, answer: &[u8]) -> io::Result<()> {
+    text(out, b"= ")?;
+    number(out, code)?;
+    text(out, b" ")?;
     if code == 0 {
-        row(answer, 0);
+        row(out, answer, 0)?;
         if !kept(answer, ANSWER_BYTES) {
-            text(b", surplus CHANGED");
+            text(out, b", surplus CHANGED")?;
         }
     } else if kept(answer, 0) {
-        text(b"untouched");
+        text(out, b"untouched")?;
     } else {
-        text(b"TOUCHED");
+        text(out, b"TOUCHED")?;
     }
-    text(b"\n");
+    text(out, b"\n")
 }
 
 // A buffer, filled; the `ensures` gives the length, which lending it as a slice needs.
@@ -40,21 +43,27 @@ fn call(program: &[u8], inputs: &[u8], steps: u32, length: usize, buffer: &mut [
     bench::chomphurek_plain_run(program, inputs, steps, &mut buffer[..length])
 }
 
-fn run(program: &[u8], inputs: &[u8], steps: u32, length: usize) {
+fn run<W: Write>(
+    out: &mut W,
+    program: &[u8],
+    inputs: &[u8],
+    steps: u32,
+    length: usize,
+) -> io::Result<()> {
     let mut answer = filled();
     let code = call(program, inputs, steps, length, &mut answer);
-    answered(code, &answer);
+    answered(out, code, &answer)
 }
 
 // The vector whose arguments begin at i.
-pub fn vector(i: usize)
+pub fn vector<R: Env + Files, W: Write>(rt: &R, out: &mut W, i: usize) -> io::Result<()>
     requires { i < 131072 }
 {
-    let mut program = io::large_buffer();
-    let n = file(i, &mut program);
-    let mut inputs = io::buffer();
-    let m = file(i + 1, &mut inputs);
-    let steps = decimal(i + 2);
-    let length = decimal(i + 3);
-    run(&program[..n], &inputs[..m], steps, length as usize);
+    let mut program = [0u8; LARGE];
+    let n = file(rt, out, i, &mut program)?;
+    let mut inputs = [0u8; SMALL];
+    let m = file(rt, out, i + 1, &mut inputs)?;
+    let steps = decimal(rt, out, i + 2)?;
+    let length = decimal(rt, out, i + 3)?;
+    run(out, &program[..n], &inputs[..m], steps, length as usize)
 }

@@ -6,7 +6,7 @@ use Rattle.std.proofs.Math.Path.{refl, ap, ap₂}
 use Rattle.std.proofs.Common.{sym, ◌∙◌, lt-ltb, ne_eqb}
 use Rattle.std.proofs.Math.Bool.{true, false}
 use mathlib.Core.List.{List, [], ◌∷◌, ◌++◌, append_assoc}
-use Rattle.std.proofs.Math.Option.{Option, none}
+use Rattle.std.proofs.Math.Option.{Option}
 use Rattle.std.proofs.Math.ListN.{length, get_or, drop}
 use Rattle.gil.specs.Numbers.{most_terms, most_rows, most_branches, most_procedures, table_length, heading_length, row_length, row_room, head_room, conditions_room, as_returned, as_failed, as_vanished, as_error, as_cut, for_steps, for_branches, boolean_term_tag, outcome_word, tag_word, value_word, steps_word, procedure_word, command_word, conditions_word}
 use Rattle.gil.specs.Text.{bytes}

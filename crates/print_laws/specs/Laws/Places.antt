@@ -2,22 +2,21 @@
 use Prim.Native.Nat.{ℕ, zero, suc, ◌+◌, ◌*◌, ◌-◌, ◌<◌}
 use Rattle.std.proofs.Common.{arith, mul-suc, ◌∙◌, length-append, get_or-drop, drop-drop}
 use Rattle.std.proofs.Math.Nat.{mul-zero}
-use Rattle.std.specs.Prelude.{◌≡◌, refl, get_or, drop, replicate}
+use Rattle.std.specs.Prelude.{◌≡◌, get_or, drop, replicate}
 use Rattle.std.proofs.Math.Path.{sym, ap, ap₂}
 use mathlib.Core.List.{List, [], ◌∷◌, ◌++◌, append_assoc}
 use Rattle.std.proofs.Math.ListN.{length}
 use Rattle.gil.specs.Numbers.{term_length, pool_length}
 use Rattle.gil.specs.Names.{gather}
-use Rattle.gil.specs.Values.{Value, const, term, number, boolean, location, Node, input, neg, bin}
-use Rattle.gil.specs.Pool.{Ref, place_in, Pool}
-use Rattle.gil.specs.Layout.{word_bytes, room, ref_tag, constant_words, value_words, node_words, node_bytes, pool_bytes}
+use Rattle.gil.specs.Values.{Node, input}
+use Rattle.gil.specs.Pool.{Ref, Pool}
+use Rattle.gil.specs.Layout.{word_bytes, room, node_words, node_bytes, pool_bytes}
 use Rattle.lent_words.specs.Laws.Row.{node-five}
 use Rattle.lent_words.specs.Laws.Rooms.{length-words}
 use Rattle.machine_code.specs.WellFormed.{Each}
 use Rattle.machine_code.specs.WellFormed as each
 use Rattle.lent_words.specs.Mirror.{word_at}
 use Rattle.lent_words.specs.Laws.Reads.{Words, word_at-words}
-use Rattle.lent_words.specs.Laws.Reads as words
 
 -- The first thing of what is left of a list, and what is left after it
 module _ {A : Type 0} where

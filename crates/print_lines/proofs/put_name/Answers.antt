@@ -1,0 +1,13 @@
+-- `printing::put_name` meets its contract. Assumes nothing.
+use Rattle.print_writing.specs.Laws.{wrote_none}
+use borrow.Author.Tests.{lt-ltb, le-ltb}
+use Rattle.print_lines.specs.Mirror.{name_form}
+use Rattle.print_lines.proofs.put_name.Goals as goal
+
+pub returns-then-k-lt-MOST_PROCEDURES : goal.returns-then-k-lt-MOST_PROCEDURES
+unfolding name_form
+returns-then-k-lt-MOST_PROCEDURES c = simp (lt-ltb _ _ c.if-k-lt-MOST_PROCEDURES.true) c.put_part.ensures
+
+pub returns : goal.returns
+unfolding name_form
+returns c = simp (le-ltb _ _ c.if-k-lt-MOST_PROCEDURES.false) (wrote_none _ _)
