@@ -1,7 +1,7 @@
 -- "What is built": the four calls, as total functions of all that they are given: what each returns, and every byte of lent memory
 -- afterwards. 0 is success, 1 to 10 a refusal, and `place` answers 256 more than the row's number. Assumes nothing.
-use Rattle.std.specs.Prelude.{ℕ, ◌+◌, Bool, true, false, not, ◌&&◌, ◌||◌, List, [], ◌∷◌, ◌++◌, length, drop, replicate, ltb, leb, eqb}
-use Rattle.gil.specs.Names.{Program, Checked, refused, accepted, check_text}
+use Rattle.std.specs.Prelude.{ℕ, ◌+◌, Bool, true, false, not, ◌&&◌, ◌||◌, List, ◌++◌, length, drop, replicate, ltb, leb, eqb}
+use Rattle.gil.specs.Names.{Checked, refused, accepted, check_text}
 use Rattle.gil.specs.Rows.{Row}
 use Rattle.gil.specs.Explore as Explore
 use Rattle.gil.specs.Explore.{Explored, explored}

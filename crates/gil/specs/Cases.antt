@@ -1,12 +1,12 @@
 -- Document 01's starred cases 1 to 8, and cases of our own where those leave a hole, by a single table and a single statement: text as
 -- bytes to refusal, rows and terms, plain run, place. Every expected answer was worked out on paper. Assumes nothing.
-use Rattle.std.specs.Prelude.{ℕ, zero, suc, ◌≡◌, refl, Bool, true, false, ◌&&◌, ◌||◌, List, [], ◌∷◌, ◌++◌, map, length, replicate}
+use Rattle.std.specs.Prelude.{ℕ, ◌≡◌, refl, Bool, true, false, List, [], ◌∷◌, ◌++◌, map, replicate}
 use Prim.Native.String.{String, ◌++◌ as ◌+++◌}
 use Rattle.std.proofs.Math.Option.{Option, none, some}
 use Rattle.gil.specs.Text
 use Rattle.gil.specs.Text.{bytes}
 use Rattle.gil.specs.Reading
-use Rattle.gil.specs.Tree.{plus, minus, equal, less, and, or}
+use Rattle.gil.specs.Tree.{plus, minus, equal, less}
 use Rattle.gil.specs.Names
 use Rattle.gil.specs.Names.{Program, check_text, accepted, gather}
 use Rattle.gil.specs.Values

@@ -4,7 +4,7 @@ use Rattle.std.specs.Prelude.{ℕ, zero, suc, Bool, true, false, List, [], ◌�
 use Rattle.gil.specs.Numbers.{most_rows, most_terms, for_rows, for_terms}
 use Rattle.gil.specs.Names.{Program}
 use Rattle.gil.specs.Machine.{Model, State, Next, on, ends, fork, Moved, move, start}
-use Rattle.gil.specs.Rows.{Condition, Path, Row, row_of, cut_for, ended, steps, branches}
+use Rattle.gil.specs.Rows.{Path, Row, row_of, cut_for, ended, steps, branches}
 
 -- what a path comes to by one command: a finished row, itself one step on, or its two branches
 pub data Turn (T : Type 0) : Type 0 where

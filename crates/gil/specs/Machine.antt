@@ -1,6 +1,6 @@
 -- "One command": the machine, once, over any model of terms, as source 003 makes GIL parametric in the state model. A command is a row
 -- of actions by `do`; an action passes the model's world on and gives an answer or an error number. Assumes nothing.
-use Rattle.std.specs.Prelude.{ℕ, suc, Bool, true, false, not, ◌&&◌, ◌||◌, List, [], ◌∷◌, length, get_or, set, replicate, ltb, leb, eqb}
+use Rattle.std.specs.Prelude.{ℕ, suc, Bool, true, false, ◌&&◌, ◌||◌, List, [], ◌∷◌, length, get_or, set, replicate, ltb, leb, eqb}
 use Rattle.std.proofs.Math.Option.{Option, none, some}
 use Rattle.gil.specs.Numbers.{not_bound, wrong_sort, no_such_cell, ninth_frame, seventeenth_input, seventeenth_location, thirty_third_cell, most_frames, most_inputs, most_locations, most_cells}
 use Rattle.gil.specs.Tree.{Op, Expr, num, bool, var, neg, bin, Cmd, assign, ifgoto, call, lookup, mutate, dispose, u_sym, i_sym, return, fail, vanish}

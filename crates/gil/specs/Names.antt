@@ -1,6 +1,6 @@
 -- "Numbered refusals": the names of a program tree, the tests behind refusals 5 to 8, each over the whole text before the next, and the
 -- accepted program, in which every name is a number. Assumes nothing.
-use Rattle.std.specs.Prelude.{ℕ, zero, suc, ◌+◌, Bool, true, false, not, ◌&&◌, ◌||◌, List, [], ◌∷◌, ◌++◌, map, length, ltb, leb}
+use Rattle.std.specs.Prelude.{ℕ, suc, Bool, true, false, not, ◌||◌, List, [], ◌∷◌, ◌++◌, map, length, ltb, leb}
 use Rattle.gil.specs.Text.{bytes, same}
 use Rattle.gil.specs.Numbers.{most_bytes, most_procedures, most_commands, most_variables, most_properties, for_length, for_form, for_limits, for_names, for_jump, for_end}
 use Rattle.gil.specs.Tree.{Expr, num, bool, var, neg, bin, Cmd, assign, ifgoto, call, lookup, mutate, dispose, u_sym, i_sym, return, fail, vanish, Proc, Name}

@@ -2,8 +2,8 @@
 -- conditions. Assumes nothing.
 use Rattle.std.specs.Prelude.{ℕ, zero, suc, false, List, [], get_or}
 use Rattle.gil.specs.Names.{Program}
-use Rattle.gil.specs.Values.{number, boolean, numbers, Sort, Value, const, Node, input, neg, bin}
-use Rattle.gil.specs.Machine.{Model, State, Next, on, ends, fork, Moved, move, start}
+use Rattle.gil.specs.Values.{number, boolean, Sort, Value, const, Node, input, neg, bin}
+use Rattle.gil.specs.Machine.{Model, State, Next, on, ends, fork, move, start}
 use Rattle.gil.specs.Rows.{Row, row_of, Path, ended, cut_for, steps}
 
 -- there is no term

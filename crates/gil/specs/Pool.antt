@@ -1,6 +1,6 @@
 -- Exploring's terms: "Terms stand in the pool in the order made. Nothing is shared or simplified." A term is a reference into the pool.
 -- The table of document 01, what the pool's terms come to on given inputs, and the row that a list of inputs falls in. Assumes nothing.
-use Rattle.std.specs.Prelude.{ℕ, zero, suc, Bool, true, false, ◌&&◌, List, [], ◌∷◌, ◌++◌, length, get_or}
+use Rattle.std.specs.Prelude.{ℕ, suc, Bool, true, false, ◌&&◌, List, [], ◌∷◌, ◌++◌, length, get_or}
 use Rattle.gil.specs.Names.{Program}
 use Rattle.gil.specs.Values.{Constant, number, boolean, Sort, numbers, booleans, truth_in, same_truth, work, work_not, Value, const, term, Node, input, neg, bin, gives_number}
 use Rattle.gil.specs.Machine.{Model}

@@ -8,7 +8,7 @@ use Rattle.gil.specs.Numbers.{most_steps, most_branches}
 use Rattle.gil.specs.Names.{Program, Checked, refused, accepted, check_text}
 use Rattle.gil.specs.Values.{Constant, number, boolean, location, Value, const, term, Node, input, neg, bin}
 use Rattle.gil.specs.Machine.{procedure_at, End, returned, failed, vanished, error}
-use Rattle.gil.specs.Rows.{Condition, Reason, steps, branches, Outcome, ended, cut, Row}
+use Rattle.gil.specs.Rows.{Condition, steps, branches, Outcome, ended, cut, Row}
 use Rattle.gil.specs.Explore as Explore
 use Rattle.gil.specs.Explore.{Explored, explored}
 use Rattle.gil.specs.Pool.{Ref, place_in, Pool, table}

@@ -2,7 +2,7 @@
 -- in it, and gives what it read and the place after it, or `faulty`: refusal 4. Assumes nothing.
 use Rattle.std.specs.Prelude.{ℕ, zero, suc, Bool, true, false, List, [], ◌∷◌, length, eqb}
 use Rattle.gil.specs.Numbers.{most_depth}
-use Rattle.gil.specs.Text.{Token, word, property, becomes, mark, ended, Lexeme, lexeme, Word, name, number, key, u_site, i_site, fault, word_of, Key, kIfgoto, kReturn, kFail, kVanish, kTrue, kFalse, kNot, kAnd, kOr, kLookup, kMutate, kDispose}
+use Rattle.gil.specs.Text.{Token, word, property, becomes, mark, ended, lexeme, Word, name, number, key, u_site, i_site, fault, word_of, Key, kIfgoto, kReturn, kFail, kVanish, kTrue, kFalse, kNot, kAnd, kOr, kLookup, kMutate, kDispose}
 use Rattle.gil.specs.Tree.{Op, plus, minus, equal, less, and, or, Expr, num, bool, var, neg, bin, Cmd, assign, ifgoto, call, lookup, mutate, dispose, u_sym, i_sym, return, fail, vanish, Proc, Name}
 
 infixl 10 ◌>>=◌

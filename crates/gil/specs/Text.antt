@@ -1,6 +1,6 @@
 -- "The text": bytes, character classes, tokens, the reserved words in one list, and what a run of characters is.
 -- A text is a list of bytes, and a place in it is a number. Assumes nothing.
-use Rattle.std.specs.Prelude.{ℕ, zero, suc, ◌+◌, ◌*◌, ◌-◌, Bool, true, false, ◌&&◌, ◌||◌, List, [], ◌∷◌, length, take, drop, leb, eqb}
+use Rattle.std.specs.Prelude.{ℕ, suc, ◌+◌, ◌*◌, ◌-◌, Bool, true, false, ◌&&◌, ◌||◌, List, [], ◌∷◌, length, take, drop, leb, eqb}
 use Prim.Native.Char.{code}
 use Prim.Native.String.{String, [] as εᵗ, ◌∷◌ as ◌∷ᵗ◌}
 use Rattle.std.proofs.Math.Option.{Option, none, some}

@@ -8,12 +8,6 @@ use Rattle.gil.specs.Plain.{plain_run}
 use Rattle.gil.specs.Layout.{answer_bytes}
 use Rattle.machine_code.specs.Code.{program_words}
 use Rattle.machine_code.specs.WellFormed.{WellFormed}
-use Rattle.machine_terms.specs.Laws.Engine.{Engine}
-use Rattle.machine_terms.specs.Laws.Plain.{plain_engine}
-use Rattle.machine_commands.specs.Mirror.{start_in, start_store}
-use Rattle.machine_laws.specs.Laws.Runs.{start_as, no-fork}
-use Rattle.table_advance.specs.Mirror.Followed.{Spot, spot, Stopped, cut_at, stopped_at}
-use Rattle.table_path.specs.Laws.Path.{SpotAs, Stops, used_up, by_command, one_as, follows}
 use Rattle.table_path.specs.Laws.Plain.{plain-answer}
 use Rattle.table_plain_run.specs.Mirror.{run_in, Answered}
 

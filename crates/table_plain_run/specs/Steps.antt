@@ -3,7 +3,6 @@ use Rattle.std.specs.Prelude.{ℕ, ◌-◌, ◌≤◌, true, ◌≡◌, List, []
 use Rattle.std.proofs.Common.{◌∙◌, ap, ap₂, arith, length-take-le}
 use Rattle.std.proofs.Math.Nat.{sub-zero}
 use Rattle.gil.specs.Numbers.{most_branches, most_cells, answer_length}
-use Rattle.machine_cells.specs.Mirror.{held_in}
 use Rattle.machine_commands.specs.declared.Control.{Control}
 use Rattle.machine_commands.specs.Mirror.{start_in, start_store}
 use Rattle.table_rows.specs.declared.Head.{Head}

@@ -1,7 +1,6 @@
 -- `call_check::check` meets its contract. Assumes nothing.
 use mathlib.Core.Path.{refl}
 use Rattle.call_check.specs.Steps.{checks}
-use borrow.Author.Rules.{rules}
 use Rattle.call_check.proofs.check.Goals as goal
 
 pub returns : goal.returns

@@ -1,7 +1,6 @@
 -- `call_explore::explore` meets its contract. Assumes nothing.
 use mathlib.Core.Path.{refl}
 use Rattle.call_explore.specs.Steps.{explore-refused, long, explore-explores}
-use borrow.Author.Rules.{rules}
 use Rattle.call_explore.proofs.explore.Goals as goal
 
 pub returns-then-refusal-ne0 : goal.returns-then-refusal-ne0

@@ -1,7 +1,6 @@
 -- `call_given::begin` meets its contract. Assumes nothing.
 use mathlib.Core.Path.{refl}
 use Rattle.call_given.specs.Steps.{begun_budgets, begun_lists, begun-text}
-use borrow.Author.Rules.{rules}
 use Rattle.call_given.proofs.begin.Goals as goal
 
 pub returns-then-budgets : goal.returns-then-budgets

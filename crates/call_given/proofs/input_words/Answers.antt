@@ -1,11 +1,8 @@
 -- `call_given::input_words` meets its contract. Assumes nothing.
 use native.Mathlib.Omega.{arith}
-use Prim.Native.Nat.{◌≤◌, ◌-◌, ◌<◌}
-use mathlib.Core.Path.{◌≡◌, refl}
-use lib.ListN.{length, take, length-set}
-use Rattle.gil.specs.Layout.{input_words}
+use Prim.Native.Nat.{◌<◌}
+use lib.ListN.{length-set}
 use Rattle.call_given.specs.Steps.{read_more, read_all}
-use borrow.Author.Rules.{rules}
 use Rattle.call_given.proofs.input_words.Goals as goal
 
 pub loop-i-preserved : goal.loop-i-preserved

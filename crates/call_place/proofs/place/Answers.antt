@@ -2,7 +2,6 @@
 use native.Mathlib.Omega.{arith}
 use mathlib.Core.Path.{refl}
 use Rattle.call_place.specs.Steps.{place-refused, long, place-full, place-places}
-use borrow.Author.Rules.{rules}
 use Rattle.call_place.proofs.place.Goals as goal
 
 pub returns-then-refusal-ne0 : goal.returns-then-refusal-ne0

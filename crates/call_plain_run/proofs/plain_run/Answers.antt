@@ -2,7 +2,6 @@
 use native.Mathlib.Omega.{arith}
 use mathlib.Core.Path.{refl}
 use Rattle.call_plain_run.specs.Steps.{plain-refused, sixteen, room, plain_runs}
-use borrow.Author.Rules.{rules}
 use Rattle.call_plain_run.proofs.plain_run.Goals as goal
 
 pub returns-then-refusal-ne0 : goal.returns-then-refusal-ne0

@@ -8,7 +8,7 @@ use Rattle.std.proofs.Common.{ap₂, ◌∙◌, subst}
 use mathlib.Core.List.{List, [], ◌∷◌, ◌++◌, map}
 use native.Mathlib.Omega.{arith}
 use Rattle.gil.specs.Names.{Program}
-use Rattle.gil.specs.Values.{Constant, boolean, truth_in, same_truth, term}
+use Rattle.gil.specs.Values.{Constant, boolean, truth_in, same_truth}
 use Rattle.gil.specs.Machine.{State, End, Next, on, ends, fork, move, start}
 use Rattle.gil.specs.Rows.{Condition, ended, cut, Reason, steps, branches, Path, Row, row_of, cut_for}
 use Rattle.gil.specs.Plain.{plain, ran, ran_to, run_for, plain_run}

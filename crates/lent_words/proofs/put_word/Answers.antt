@@ -2,7 +2,6 @@
 use native.Mathlib.Omega.{arith}
 use mathlib.Core.Path.{sym, ◌∙◌}
 use Rattle.lent_words.specs.Steps.{put_word-out, stores_word}
-use borrow.Author.Rules.{rules}
 use Rattle.lent_words.proofs.put_word.Goals as goal
 
 pub returns-then-b-lt4 : goal.returns-then-b-lt4

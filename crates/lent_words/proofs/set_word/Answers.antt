@@ -1,9 +1,6 @@
 -- `words::set_word` meets its contract. Assumes nothing.
-use native.Mathlib.Omega.{arith}
 use native.Mathlib.Numerals.{towards_suc}
-use lib.ListN.{length-set}
 use Rattle.gil.specs.Layout.{word_bytes}
-use borrow.Author.Rules.{rules}
 use Rattle.lent_words.proofs.set_word.Goals as goal
 
 pub returns : goal.returns

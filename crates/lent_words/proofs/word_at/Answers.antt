@@ -5,7 +5,6 @@ use lib.ListN.{length}
 use mathlib.Core.Path.{sym}
 use Rattle.lent_words.specs.Steps.{word_at-out}
 use Rattle.lent_words.specs.Laws.Words.{word_at_in}
-use borrow.Author.Rules.{rules}
 use Rattle.lent_words.proofs.word_at.Goals as goal
 
 pub returns-then-b-lt4 : goal.returns-then-b-lt4

@@ -1,10 +1,8 @@
 -- `words::zero` meets its contract. Assumes nothing.
-use native.Mathlib.Omega.{arith}
-use Prim.Native.Nat.{◌≤◌, ◌<◌, ◌-◌}
-use mathlib.Core.Path.{◌≡◌, refl}
+use Prim.Native.Nat.{◌≤◌, ◌-◌}
+use mathlib.Core.Path.{◌≡◌}
 use mathlib.Core.List.{◌++◌}
-use lib.ListN.{length, drop, replicate, length-set}
-use Rattle.lent_words.specs.Steps.{zeroed-more, zeroed-all}
+use lib.ListN.{length, drop, replicate}
 use Rattle.lent_words.proofs.zero.Given as goal
 
 abbrev pub invariant-loop-i : goal.invariant-loop-i

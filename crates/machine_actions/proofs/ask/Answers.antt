@@ -2,7 +2,6 @@
 use borrow.Author.Tests.{eq-eqb, ne_eqb}
 use Rattle.machine_actions.specs.Mirror.{ask_second, ask_in}
 use Rattle.machine_actions.specs.Steps.{same-asks, word-errs, word-gives}
-use borrow.Author.Rules.{rules}
 use Rattle.machine_actions.proofs.ask.Goals as goal
 
 pub returns-then-v-lt-VALUES : goal.returns-then-v-lt-VALUES

@@ -1,7 +1,6 @@
 -- `actions::asking` meets its contract. Assumes nothing.
 use borrow.Author.Tests.{eq-eqb, ne_eqb}
 use Rattle.machine_actions.specs.Mirror.{asking_in}
-use borrow.Author.Rules.{rules}
 use Rattle.machine_actions.proofs.asking.Goals as goal
 
 pub returns-then-tag-ne-LOCATION_TAG : goal.returns-then-tag-ne-LOCATION_TAG

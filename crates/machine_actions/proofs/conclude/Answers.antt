@@ -1,7 +1,6 @@
 -- `actions::conclude` meets its contract. Assumes nothing.
 use borrow.Author.Tests.{eq-eqb, ne_eqb}
 use Rattle.machine_actions.specs.Mirror.{conclude_in}
-use borrow.Author.Rules.{rules}
 use Rattle.machine_actions.proofs.conclude.Goals as goal
 
 pub returns-in-4 : goal.returns-in-4

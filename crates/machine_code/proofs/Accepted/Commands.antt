@@ -5,7 +5,7 @@ use native.Mathlib.Omega.{arith}
 use Rattle.std.proofs.Math.Bool.{true, false}
 use Rattle.gil.specs.Text.{Token, word, property, becomes, mark, ended, Word, Key, kIfgoto, kReturn, kFail, kVanish, kTrue, kFalse, kNot, kAnd, kOr, kLookup, kMutate, kDispose}
 use Rattle.gil.specs.Tree.{Expr, var, Cmd, assign, ifgoto, call, lookup, mutate, dispose, u_sym, i_sym, return, fail, vanish, Name}
-use Rattle.gil.specs.Reading.{Reader, nothing, token, is_mark, is_ended, assignment, call_of, call_or_var, named, lookup_of, mutate_of, dispose_of, value_key, value_word, value_from, setting_of, jump_of, ending_of, command_key, command_word, command, or_more, one_or_more, commands_of, commands, procedure, procedures_of, procedures}
+use Rattle.gil.specs.Reading.{Reader, nothing, is_mark, is_ended, assignment, call_of, call_or_var, named, lookup_of, mutate_of, dispose_of, value_key, value_word, value_from, setting_of, jump_of, ending_of, command_key, command_word, command, or_more, one_or_more, commands_of, commands, procedure, procedures_of, procedures}
 use Rattle.machine_code.specs.WellFormed.{Each, none, more}
 use Rattle.machine_code.proofs.Accepted.Lists.{total}
 use Rattle.machine_code.proofs.Accepted.Tokens.{WordFits, a_name, a_number, a_key, a_uSite, an_iSite, a_fault, word_of-fits, as_word-fits}

@@ -1,7 +1,6 @@
 -- `code::code_word` meets its contract. Assumes nothing.
 use borrow.Author.Tests.{lt-ltb, le-ltb}
 use Rattle.machine_code.specs.Mirror.{code_word}
-use borrow.Author.Rules.{rules}
 use Rattle.machine_code.proofs.code_word.Goals as goal
 
 pub returns-then-at-lt-CODE_WORDS : goal.returns-then-at-lt-CODE_WORDS

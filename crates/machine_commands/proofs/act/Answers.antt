@@ -1,5 +1,5 @@
 -- `commands::act` meets its contract. Assumes nothing.
-use Rattle.std.proofs.Common.{ap, rules, eq-eqb, ne_eqb}
+use Rattle.std.proofs.Common.{ap, eq-eqb, ne_eqb}
 use Rattle.machine_commands.specs.declared.Next.{Next}
 use Rattle.machine_commands.specs.Mirror.{acted, act_in}
 use Rattle.machine_commands.proofs.act.Goals as goal

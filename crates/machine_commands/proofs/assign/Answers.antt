@@ -1,6 +1,5 @@
 -- `commands::assign` meets its contract. Assumes nothing.
 use Rattle.machine_commands.specs.Mirror.{assign_in}
-use Rattle.std.proofs.Common.{rules}
 use Rattle.machine_commands.proofs.assign.Goals as goal
 
 pub returns : goal.returns

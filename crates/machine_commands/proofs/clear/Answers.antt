@@ -1,7 +1,7 @@
 -- `commands::clear` meets its contract. Assumes nothing.
-use Rattle.std.proofs.Common.{◌≡◌, ℕ, ◌+◌, ◌-◌, ◌≤◌, List, sym, ap, ◌∙◌, arith, rules}
+use Rattle.std.proofs.Common.{ℕ, ◌+◌, ◌-◌, List, sym, ap, ◌∙◌, arith}
 use Rattle.machine_commands.specs.Mirror.{zeros_in}
-use Rattle.machine_commands.specs.Steps.{zeros-none, zeros-more, zeros-end}
+use Rattle.machine_commands.specs.Steps.{zeros-more, zeros-end}
 use Rattle.machine_commands.proofs.clear.Goals as goal
 
 pub loop-i-preserved : goal.loop-i-preserved

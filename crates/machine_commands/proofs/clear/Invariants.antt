@@ -1,7 +1,6 @@
 -- `commands::clear` meets its contract. Assumes nothing.
-use Rattle.std.proofs.Common.{◌≡◌, ℕ, ◌+◌, ◌-◌, ◌≤◌, List, sym, ap, ◌∙◌, arith, rules}
+use Rattle.std.proofs.Common.{◌≡◌, ◌+◌, ◌-◌, ◌≤◌}
 use Rattle.machine_commands.specs.Mirror.{zeros_in}
-use Rattle.machine_commands.specs.Steps.{zeros-none, zeros-more, zeros-end}
 use Rattle.machine_commands.proofs.clear.Given as goal
 
 abbrev pub invariant-loop-i : goal.invariant-loop-i

@@ -1,5 +1,5 @@
 -- `commands::command_at` meets its contract. Assumes nothing.
-use Rattle.std.proofs.Common.{rules, le-ltb, lt-ltb}
+use Rattle.std.proofs.Common.{le-ltb, lt-ltb}
 use Rattle.machine_commands.specs.Mirror.{command_in}
 use Rattle.machine_commands.proofs.command_at.Goals as goal
 

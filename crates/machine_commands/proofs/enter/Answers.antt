@@ -1,5 +1,5 @@
 -- `commands::enter` meets its contract. Assumes nothing.
-use Rattle.std.proofs.Common.{rules, le-leb}
+use Rattle.std.proofs.Common.{le-leb}
 use Rattle.machine_commands.specs.Mirror.{enter_in}
 use Rattle.machine_commands.specs.Steps.{entered, frame_chain}
 use Rattle.machine_commands.proofs.enter.Goals as goal

@@ -1,6 +1,5 @@
 -- `commands::goto` meets its contract. Assumes nothing.
 use Rattle.machine_commands.specs.Mirror.{goto_in}
-use Rattle.std.proofs.Common.{rules}
 use Rattle.machine_commands.proofs.goto.Goals as goal
 
 pub returns : goal.returns

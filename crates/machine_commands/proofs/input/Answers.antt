@@ -1,6 +1,5 @@
 -- `commands::input` meets its contract. Assumes nothing.
 use Rattle.machine_terms.specs.Laws.Engine.{fresh_in}
-use Rattle.std.proofs.Common.{rules}
 use Rattle.machine_commands.proofs.input.Goals as goal
 
 pub returns-then-known : goal.returns-then-known

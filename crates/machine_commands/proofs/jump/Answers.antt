@@ -1,5 +1,5 @@
 -- `commands::jump` meets its contract. Assumes nothing.
-use Rattle.std.proofs.Common.{rules, eq-eqb, ne_eqb}
+use Rattle.std.proofs.Common.{eq-eqb, ne_eqb}
 use Rattle.machine_commands.specs.Mirror.{jump_in}
 use Rattle.machine_commands.proofs.jump.Goals as goal
 

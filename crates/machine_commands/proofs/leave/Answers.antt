@@ -1,5 +1,5 @@
 -- `commands::leave` meets its contract. Assumes nothing.
-use Rattle.std.proofs.Common.{rules, eq-eqb}
+use Rattle.std.proofs.Common.{eq-eqb}
 use Rattle.machine_commands.specs.Mirror.{leave_in}
 use Rattle.machine_commands.specs.Steps.{left}
 use Rattle.machine_commands.proofs.leave.Goals as goal

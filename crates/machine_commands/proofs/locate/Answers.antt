@@ -1,5 +1,5 @@
 -- `commands::locate` meets its contract. Assumes nothing.
-use Rattle.std.proofs.Common.{rules, le-leb}
+use Rattle.std.proofs.Common.{le-leb}
 use borrow.Author.Tests.{lt-leb}
 use Rattle.machine_commands.specs.Mirror.{locate_in}
 use Rattle.machine_commands.proofs.locate.Goals as goal

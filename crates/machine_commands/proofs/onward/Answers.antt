@@ -1,6 +1,5 @@
 -- `commands::onward` meets its contract. Assumes nothing.
 use Rattle.machine_commands.specs.Mirror.{onward_in}
-use Rattle.std.proofs.Common.{rules}
 use Rattle.machine_commands.proofs.onward.Goals as goal
 
 pub returns : goal.returns

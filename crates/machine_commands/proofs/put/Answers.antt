@@ -1,5 +1,5 @@
 -- `commands::put` meets its contract. Assumes nothing.
-use Rattle.std.proofs.Common.{rules, le-ltb, lt-ltb}
+use Rattle.std.proofs.Common.{le-ltb, lt-ltb}
 use Rattle.machine_commands.specs.Mirror.{put_in}
 use Rattle.machine_commands.proofs.put.Goals as goal
 

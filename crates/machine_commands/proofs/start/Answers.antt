@@ -1,6 +1,5 @@
 -- `commands::start` meets its contract. Assumes nothing.
 use Rattle.machine_commands.specs.Mirror.{start_in}
-use Rattle.std.proofs.Common.{rules}
 use Rattle.machine_commands.proofs.start.Goals as goal
 
 pub returns : goal.returns

@@ -1,5 +1,5 @@
 -- `commands::start_store` meets its contract. Assumes nothing.
-use Rattle.std.proofs.Common.{refl, rules}
+use Rattle.std.proofs.Common.{refl}
 use Rattle.machine_commands.specs.Mirror.{start_store}
 use Rattle.machine_commands.proofs.start_store.Goals as goal
 

@@ -1,5 +1,5 @@
 -- `commands::step` meets its contract. Assumes nothing.
-use Rattle.std.proofs.Common.{ap, rules, ne_eqb}
+use Rattle.std.proofs.Common.{ap, ne_eqb}
 use Rattle.machine_commands.specs.Mirror.{Acted, after_acted, step_in}
 use Rattle.machine_commands.specs.Steps.{value-errs, value_acts}
 use Rattle.machine_commands.proofs.step.Goals as goal

@@ -1,10 +1,7 @@
 -- `evaluate::operand` and `evaluate::operator` meet their contracts. Assumes nothing.
-use native.Mathlib.Omega.{arith}
 use borrow.Author.Tests.{eq-eqb, ne_eqb}
 use Rattle.machine_evaluate.specs.Mirror.{operand_in, operand_by}
 use Rattle.machine_evaluate.specs.Steps.{past-depth, past_end, first-errs, negates, second-errs, operates}
-use Prim.Native.Nat.{ℕ, ◌+◌, ◌<◌}
-use borrow.Author.Rules.{rules}
 use Rattle.machine_evaluate.proofs.+operand_operator.Goals as goal
 
 pub operand-returns-then-v-eq0 : goal.operand-returns-then-v-eq0

@@ -1,7 +1,6 @@
 -- `evaluate::evaluate` meets its contract. Assumes nothing.
 use borrow.Author.Tests.{eq-eqb, ne_eqb}
 use Rattle.machine_evaluate.specs.Mirror.{evaluate_in, operand_in, operand_by}
-use borrow.Author.Rules.{rules}
 use Rattle.machine_evaluate.proofs.evaluate.Goals as goal
 
 pub returns-then-v-eq0 : goal.returns-then-v-eq0

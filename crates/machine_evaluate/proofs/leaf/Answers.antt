@@ -1,7 +1,6 @@
 -- `evaluate::leaf` meets its contract. Assumes nothing.
 use borrow.Author.Tests.{lt-ltb, le-ltb}
 use Rattle.machine_evaluate.specs.Mirror.{leaf_in, leaf_of}
-use borrow.Author.Rules.{rules}
 use Rattle.machine_evaluate.proofs.leaf.Goals as goal
 
 pub returns-then-at-ge-CODE_WORDS : goal.returns-then-at-ge-CODE_WORDS

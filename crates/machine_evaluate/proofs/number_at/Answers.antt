@@ -1,7 +1,6 @@
 -- `evaluate::number_at` meets its contract. Assumes nothing.
 use borrow.Author.Tests.{lt-ltb, le-ltb}
 use Rattle.machine_evaluate.specs.Mirror.{number_in}
-use borrow.Author.Rules.{rules}
 use Rattle.machine_evaluate.proofs.number_at.Goals as goal
 
 pub returns-then-at-lt-CODE_WORDS : goal.returns-then-at-lt-CODE_WORDS

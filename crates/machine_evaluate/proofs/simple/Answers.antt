@@ -2,7 +2,6 @@
 use mathlib.Core.Path.{sym, ◌∙◌}
 use Rattle.machine_evaluate.specs.Mirror.{not_simple}
 use Rattle.machine_evaluate.specs.Steps.{simply-worked}
-use borrow.Author.Rules.{rules}
 use Rattle.machine_evaluate.proofs.simple.Goals as goal
 
 pub returns-then-at-ge-CODE_WORDS : goal.returns-then-at-ge-CODE_WORDS

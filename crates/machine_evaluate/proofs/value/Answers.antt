@@ -2,7 +2,6 @@
 use borrow.Author.Tests.{eq-eqb, ne_eqb}
 use Rattle.machine_evaluate.specs.Mirror.{evaluate_in, operand_in, operand_by}
 use Rattle.machine_evaluate.specs.Steps.{simply}
-use borrow.Author.Rules.{rules}
 use Rattle.machine_evaluate.proofs.value.Goals as goal
 
 pub returns-then-w-eq0 : goal.returns-then-w-eq0

@@ -1,7 +1,6 @@
 -- `evaluate::variable` meets its contract. Assumes nothing.
 use borrow.Author.Tests.{eq-eqb, ne_eqb, lt-ltb, le-ltb}
 use Rattle.machine_evaluate.specs.Mirror.{variable_in}
-use borrow.Author.Rules.{rules}
 use Rattle.machine_evaluate.proofs.variable.Goals as goal
 
 pub returns-then-v-eq0 : goal.returns-then-v-eq0

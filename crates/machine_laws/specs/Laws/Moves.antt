@@ -11,7 +11,6 @@ use borrow.Author.Tests.{eq-eqb, ne_eqb, lt-ltb, le-ltb, le-leb, lt-leb, ltb-tru
 use Rattle.gil.specs.Numbers.{most_procedures, most_variables, most_frames, wrong_sort, ninth_frame, boolean_tag, boolean_term_tag}
 use Rattle.gil.specs.Names.{Program}
 use Rattle.gil.specs.Values.{Value, Sort, numbers, booleans, locations, same_sort}
-use Rattle.gil.specs.Values as Values
 use Rattle.gil.specs.Machine as Machine
 use Rattle.gil.specs.Machine.{Model, Caller, Store, Memory, State, Moved, settled, on, ends, fork, returned, failed, vanished, error, Result, ok, err, and_then, ◌>>◌, give, stop, must, procedure_at, goto, onward, entered, back_to, frames, steer, assigned, with_memory, answered, top_store, below_top, opened, closed, returns_to, jump}
 use Rattle.machine_code.specs.Code.{frame_words, store_words, returns_at}
@@ -21,7 +20,6 @@ use Rattle.machine_values.specs.Mirror.{truth_word}
 use Rattle.machine_values.specs.Laws.{a_number, a_truth, a_location}
 use Rattle.machine_terms.specs.Mirror.{Did}
 use Rattle.machine_terms.specs.Laws.Engine.{Engine, const_as, term_as, TermTag, tags_number, tags_boolean, As, EvalAs, gives, errs, value_low}
-use Rattle.machine_evaluate.specs.Laws.{bound}
 use Rattle.machine_commands.specs.declared.Control.{Control}
 use Rattle.machine_commands.specs.declared.Next.{Next}
 use Rattle.machine_commands.specs.declared.Next.TheVariants.{On, Returned, Failed, Vanished, Error, Fork}

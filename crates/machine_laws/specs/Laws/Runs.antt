@@ -11,7 +11,7 @@ use Rattle.gil.specs.Machine as Machine
 use Rattle.gil.specs.Machine.{Model, there, start, unused, frame, procedure_at}
 use Rattle.gil.specs.Plain.{plain}
 use Rattle.machine_code.specs.Code.{program_words, store_words}
-use Rattle.machine_code.specs.WellFormed.{a_number, WellFormed}
+use Rattle.machine_code.specs.WellFormed.{WellFormed}
 use Rattle.machine_code.specs.Mirror.{code_word}
 use Rattle.machine_values.specs.Laws as Values
 use Rattle.machine_terms.specs.Laws.Engine.{Engine, const_as}

@@ -1,5 +1,5 @@
 -- `terms::input` meets its contract. Assumes nothing.
-use Rattle.std.proofs.Common.{◌+◌, ap, rules}
+use Rattle.std.proofs.Common.{◌+◌, ap}
 use Rattle.machine_terms.specs.Mirror.{Did, did, input_in, made_in}
 use Rattle.machine_terms.proofs.input.Goals as goal
 

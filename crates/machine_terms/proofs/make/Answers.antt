@@ -1,5 +1,5 @@
 -- `terms::make` meets its contract. Assumes nothing.
-use Rattle.std.proofs.Common.{rules, le-leb}
+use Rattle.std.proofs.Common.{le-leb}
 use borrow.Author.Tests.{lt-leb}
 use Rattle.machine_terms.specs.Mirror.{made_in, pool_with}
 use Rattle.machine_terms.proofs.make.Goals as goal

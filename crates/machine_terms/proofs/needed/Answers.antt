@@ -1,5 +1,5 @@
 -- `terms::needed` meets its contract. Assumes nothing.
-use Rattle.std.proofs.Common.{rules, eq-eqb, ne_eqb}
+use Rattle.std.proofs.Common.{eq-eqb, ne_eqb}
 use Rattle.machine_terms.specs.Mirror.{needed_in}
 use Rattle.machine_terms.proofs.needed.Goals as goal
 

@@ -1,5 +1,5 @@
 -- `terms::negate` meets its contract. Assumes nothing.
-use Rattle.std.proofs.Common.{◌+◌, ap, rules, le-ltb, lt-ltb, eq-eqb, ne_eqb}
+use Rattle.std.proofs.Common.{◌+◌, ap, le-ltb, lt-ltb, eq-eqb, ne_eqb}
 use Rattle.machine_terms.specs.Mirror.{Did, did, negate_in, made_in}
 use Rattle.machine_terms.proofs.negate.Goals as goal
 

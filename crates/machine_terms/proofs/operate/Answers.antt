@@ -1,5 +1,5 @@
 -- `terms::operate` meets its contract. Assumes nothing.
-use Rattle.std.proofs.Common.{sym, ◌∙◌, rules, le-ltb, lt-ltb, eq-eqb, ne_eqb}
+use Rattle.std.proofs.Common.{sym, ◌∙◌, le-ltb, lt-ltb, eq-eqb, ne_eqb}
 use Rattle.machine_terms.specs.Mirror.{operate_in}
 use Rattle.machine_terms.specs.Steps.Worked.{worked}
 use Rattle.machine_terms.proofs.operate.Goals as goal

@@ -1,6 +1,5 @@
 -- `terms::put_node` meets its contract. Assumes nothing.
 use Rattle.machine_terms.specs.Steps.Stores.{five-words}
-use Rattle.std.proofs.Common.{rules}
 use Rattle.machine_terms.proofs.put_node.Goals as goal
 
 pub returns : goal.returns

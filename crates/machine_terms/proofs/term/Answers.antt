@@ -1,5 +1,5 @@
 -- `terms::term` meets its contract. Assumes nothing.
-use Rattle.std.proofs.Common.{◌≡◌, ◌+◌, ◌%◌, ap, arith, rules, le-ltb, lt-ltb}
+use Rattle.std.proofs.Common.{◌≡◌, ◌+◌, ◌%◌, ap, arith, le-ltb, lt-ltb}
 use Rattle.machine_terms.specs.Mirror.{Did, did, term_in, made_in}
 use Rattle.machine_terms.proofs.term.Goals as goal
 

@@ -1,7 +1,7 @@
 -- The pool's model stands in words: the count is the number of terms, and the lent bytes are theirs, as far as there is room. Both hold up to
 -- 2^32 terms; a command makes at most 511. Assumes nothing.
 use Rattle.std.specs.Prelude.{◌≡◌, ℕ, zero, suc, ◌+◌, ◌-◌, ◌*◌, ◌/◌, ◌%◌, ◌<◌, ◌≤◌, Bool, true, false, List, [], ◌∷◌, ◌++◌, length, take, drop, replicate, nat_le, nat_lt, refl}
-use Rattle.std.proofs.Common.{sym, ◌∙◌, ap, ap₂, append-nil, append_assoc, mod-eq_of_lt, arith, length-append, length-take, take_all, le-leb, ltb-true, ltb-false}
+use Rattle.std.proofs.Common.{sym, ◌∙◌, ap, ap₂, append-nil, mod-eq_of_lt, arith, length-append, length-take, take_all, le-leb, ltb-true, ltb-false}
 use Rattle.std.proofs.Math.Nat.{add-mul-div_right, add-mul-mod_self_right, mod-add-mod, sub-zero, zero-sub, suc-sub-suc}
 use Rattle.std.proofs.lemmas.List.{length-replicate, take-append-le}
 use Rattle.std.proofs.lemmas.List.Edits.{sets, sets-eq}
@@ -10,12 +10,11 @@ use Rattle.std.proofs.lemmas.Bool.{lt-leb}
 use Rattle.gil.specs.Numbers.{most_terms, term_length, pool_length}
 use Rattle.gil.specs.Tree.{Op, plus, minus, equal, less, and, or}
 use Rattle.gil.specs.Names.{gather}
-use Rattle.gil.specs.Values.{number, boolean, location, Value, const, term, Node, input, neg, bin, op_gives_number, gives_number}
+use Rattle.gil.specs.Values.{Value, term, Node, input, neg, bin, op_gives_number, gives_number}
 use Rattle.gil.specs.Pool.{Ref, numberTerm, booleanTerm, ref_sort, place_in, Pool, ref_to, added, pooled}
 use Rattle.gil.specs.Layout.{word_bytes, room, bit, constant_words, value_words, ref_tag, op_code, node_words, node_bytes}
 use Rattle.gil.proofs.Theory.Gathered.{gather_append}
 use Rattle.lent_words.specs.Laws.Row.{node-long, nodes-long}
-use Rattle.lent_words.specs.Laws.Rooms.{length-words}
 use Rattle.machine_code.specs.Code.{op_word, equal_node}
 use Rattle.machine_code.specs.Mirror.{if?}
 use Rattle.machine_values.specs.Mirror.{truth_word}

@@ -1,5 +1,5 @@
 -- `values::both` meets its contract. Assumes nothing.
-use Rattle.std.proofs.Common.{rules, eq-eqb, ne_eqb}
+use Rattle.std.proofs.Common.{eq-eqb, ne_eqb}
 use Rattle.machine_values.specs.Mirror.{both_word}
 use Rattle.machine_values.proofs.both.Goals as goal
 

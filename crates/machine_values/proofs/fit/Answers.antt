@@ -1,5 +1,5 @@
 -- `values::fit` meets its contract. Assumes nothing.
-use Rattle.std.proofs.Common.{rules, eq-eqb, ne_eqb}
+use Rattle.std.proofs.Common.{eq-eqb, ne_eqb}
 use Rattle.machine_values.specs.Mirror.{fit_word}
 use Rattle.machine_values.proofs.fit.Goals as goal
 

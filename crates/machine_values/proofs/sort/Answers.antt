@@ -1,5 +1,5 @@
 -- `values::sort` meets its contract. Assumes nothing.
-use Rattle.std.proofs.Common.{rules, le-ltb, lt-ltb}
+use Rattle.std.proofs.Common.{le-ltb, lt-ltb}
 use Rattle.machine_values.specs.Mirror.{sort_word}
 use Rattle.machine_values.proofs.sort.Goals as goal
 

@@ -1,6 +1,5 @@
 -- `values::truth` meets its contract. Assumes nothing.
 use Rattle.machine_values.specs.Mirror.{truth_word}
-use Rattle.std.proofs.Common.{rules}
 use Rattle.machine_values.proofs.truth.Goals as goal
 
 pub returns-then-b : goal.returns-then-b

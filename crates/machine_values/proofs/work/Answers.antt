@@ -1,5 +1,5 @@
 -- `values::work` meets its contract. Assumes nothing.
-use Rattle.std.proofs.Common.{ℕ, ◌+◌, ap, ◌∙◌, arith, rules, ne_eqb}
+use Rattle.std.proofs.Common.{ℕ, ◌+◌, ap, ◌∙◌, arith, ne_eqb}
 use Rattle.machine_values.specs.Mirror.{work_word}
 use Rattle.machine_values.proofs.work.Goals as goal
 

@@ -2,7 +2,6 @@
 use native.Mathlib.Omega.{arith}
 use mathlib.Core.Path.{refl}
 use Rattle.print_text.specs.Steps.Comes.{prints-refusal, prints-table}
-use borrow.Author.Rules.{rules}
 use Rattle.print_text.proofs.print_table.Goals as goal
 
 pub returns-then-refusal-ne0 : goal.returns-then-refusal-ne0

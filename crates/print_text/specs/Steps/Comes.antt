@@ -4,7 +4,7 @@ use Rattle.std.proofs.Common.{arith, sym, ◌∙◌}
 use Rattle.std.proofs.Math.Path.{refl, ap, subst}
 use Rattle.std.proofs.lemmas.List.{length-replicate}
 use borrow.Author.Tests.{le-ltb}
-use Rattle.gil.specs.Names.{Program, refused, accepted, check_text}
+use Rattle.gil.specs.Names.{Program, accepted, check_text}
 use Rattle.gil.specs.Machine.{procedure_at}
 use Rattle.gil.specs.Rows.{Row}
 use Rattle.gil.specs.Explore as Explore

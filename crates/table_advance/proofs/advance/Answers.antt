@@ -1,5 +1,5 @@
 -- `advance::advance` meets its contract. Assumes nothing.
-use Rattle.std.proofs.Common.{arith, rules}
+use Rattle.std.proofs.Common.{arith}
 use Rattle.table_advance.specs.Steps.{advances, halts}
 use Rattle.table_advance.proofs.advance.Goals as goal
 

@@ -1,7 +1,6 @@
 -- `advance::asked` meets its contract. Assumes nothing.
 use Rattle.table_advance.specs.Mirror.Progressed.{asked_in}
 use Rattle.table_advance.specs.Steps.{asked-errs, asked_waits}
-use Rattle.std.proofs.Common.{rules}
 use Rattle.table_advance.proofs.asked.Goals as goal
 
 pub returns-then-ask-eq0 : goal.returns-then-ask-eq0

@@ -1,6 +1,5 @@
 -- `advance::concluded` meets its contract. Assumes nothing.
 use Rattle.table_advance.specs.Steps.{concluded_nothing, concluded_goes, concluded_stops}
-use Rattle.std.proofs.Common.{rules}
 use Rattle.table_advance.proofs.concluded.Goals as goal
 
 pub returns-then-ask-eq0 : goal.returns-then-ask-eq0

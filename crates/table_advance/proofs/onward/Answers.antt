@@ -1,8 +1,7 @@
 -- `advance::onward` meets its contract. Assumes nothing.
-use Rattle.std.proofs.Common.{◌≡◌, ◌-◌, ◌≤◌, length, refl, arith, rules}
+use Rattle.std.proofs.Common.{arith}
 use Rattle.std.proofs.Common.{ap, not}
-use Rattle.table_advance.specs.Mirror.Followed.{one_in}
-use Rattle.table_advance.specs.Steps.{Along, used-up, asks-cells, goes_along, stops}
+use Rattle.table_advance.specs.Steps.{used-up, asks-cells, goes_along, stops}
 use Rattle.table_advance.proofs.onward.Goals as goal
 
 pub returns-then-acts : goal.returns-then-acts

@@ -1,6 +1,6 @@
 -- `walk::explore` meets its contract. Assumes nothing.
 use native.Mathlib.Omega.{arith}
-use mathlib.Core.Path.{◌∙◌, ◌≡◌}
+use mathlib.Core.Path.{◌∙◌}
 use lib.ListN.{length}
 use Rattle.machine_cells.specs.Laws.Served.{no_cells}
 use Rattle.table_walk.specs.Mirror.{reached}

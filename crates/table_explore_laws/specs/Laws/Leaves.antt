@@ -18,12 +18,10 @@ use Rattle.gil.proofs.Theory.Relation.{grows_not, start_rel}
 use Rattle.gil.proofs.Theory.PoolTree.{as_trees}
 use Rattle.machine_code.specs.Code.{program_words}
 use Rattle.machine_code.specs.WellFormed.{WellFormed}
-use Rattle.machine_code.specs.Mirror.{if?}
 use Rattle.machine_terms.specs.Laws.Pooled.{PoolAs, pooled_engine}
 use Rattle.machine_commands.specs.Mirror.{start_in, start_store}
 use Rattle.machine_laws.specs.Laws.Runs.{start_as}
 use Rattle.table_advance.specs.Mirror.Followed.{spot}
-use Rattle.table_path.specs.Laws.Exploring.{counts-terms}
 use Rattle.lent_words.specs.Mirror.{put_words}
 use Rattle.table_rows.specs.Laws.Held as Held
 use Rattle.table_rows.specs.Laws.Table.{table_none, table-headed}

@@ -21,9 +21,8 @@ use Rattle.gil.proofs.Theory.Relation.{Grows, grows-on}
 use Rattle.gil.proofs.Theory.PoolTree.{as_trees}
 use Rattle.machine_code.specs.Code.{program_words}
 use Rattle.machine_code.specs.WellFormed.{WellFormed}
-use Rattle.machine_code.specs.Mirror.{if?}
-use Rattle.machine_terms.specs.Laws.Engine.{Engine, As, ValueAs}
-use Rattle.machine_terms.specs.Laws.Pooled.{RefAs, a_number_term, a_boolean_term, PoolAs, pooled_engine, value-words}
+use Rattle.machine_terms.specs.Laws.Engine.{As, ValueAs}
+use Rattle.machine_terms.specs.Laws.Pooled.{RefAs, a_number_term, a_boolean_term, pooled_engine, value-words}
 use Rattle.machine_cells.specs.declared.Cell.{Cell}
 use Rattle.machine_cells.specs.Mirror.{cell_of, held_in}
 use Rattle.machine_commands.specs.declared.Control.{Control}

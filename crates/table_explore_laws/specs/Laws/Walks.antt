@@ -11,7 +11,7 @@ use Rattle.gil.specs.Numbers.{most_steps, most_branches, most_terms, most_inputs
 use Rattle.gil.specs.Names.{Program}
 use Rattle.gil.specs.Machine as Machine
 use Rattle.gil.specs.Machine.{State, move, fork}
-use Rattle.gil.specs.Rows.{Condition, Path, Row, cut_for, cut, steps, branches}
+use Rattle.gil.specs.Rows.{Condition, Path, Row, cut_for, steps, branches}
 use Rattle.gil.specs.Explore as Explore
 use Rattle.gil.specs.Explore.{Explored, refused, explored, branched, turned, walk_turn, overfull, turn_in, walk_move, walk}
 use Rattle.gil.specs.Pool.{pooled}
@@ -22,15 +22,13 @@ use Rattle.gil.proofs.Theory.Relation.{Nexts, forks, is_true, is_false, Grows, g
 use Rattle.gil.proofs.Theory.PoolTree.{counted, as_trees}
 use Rattle.machine_code.specs.Code.{program_words}
 use Rattle.machine_code.specs.WellFormed.{WellFormed}
-use Rattle.machine_code.specs.Mirror.{if?}
-use Rattle.machine_terms.specs.Laws.Engine.{Engine}
 use Rattle.machine_terms.specs.Laws.Pooled.{pooled_engine}
 use Rattle.machine_commands.specs.declared.Control.{Control}
 use Rattle.machine_commands.specs.declared.Next.{Next}
 use Rattle.machine_commands.specs.declared.Next.TheVariants.{Vanished, Fork}
 use Rattle.machine_laws.specs.Laws.Moves.{StateAs}
 use Rattle.table_head.specs.Mirror.{end_of, ended_in}
-use Rattle.table_advance.specs.Mirror.Followed.{Spot, spot, Stopped, goes_in, cut_at, stopped_at, follow_in, one_in}
+use Rattle.table_advance.specs.Mirror.Followed.{Spot, spot, Stopped, goes_in, cut_at, stopped_at}
 use Rattle.table_path.specs.Laws.Few.{FewNext, few_fork, move-few}
 use Rattle.table_path.specs.Laws.Path.{onward-steps, SpotAs, Stops, used_up, by_command, Followed, one, one_as, EndAs, end_returned, end_failed, end_vanished, end_erred, end-outcome, end-steps, Came, came_on, came_end, came_fork, came}
 use Rattle.table_path.specs.Laws.Exploring.{pick_false, walk-onward, Reading, Sound, moved-reads, moved-few, counts-terms, explores}

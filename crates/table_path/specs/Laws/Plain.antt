@@ -11,7 +11,7 @@ use Rattle.gil.specs.Names.{Program}
 use Rattle.gil.specs.Values.{const}
 use Rattle.gil.specs.Machine as Machine
 use Rattle.gil.specs.Machine.{State, move, start}
-use Rattle.gil.specs.Rows.{cut_for, cut, steps}
+use Rattle.gil.specs.Rows.{cut_for, steps}
 use Rattle.gil.specs.Plain.{plain, ran, ran_to, run_for, plain_run}
 use Rattle.gil.specs.Explore.{overfull}
 use Rattle.gil.specs.Layout.{reason_code, no_number, answer_bytes}

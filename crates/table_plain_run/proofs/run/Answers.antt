@@ -1,11 +1,6 @@
 -- `run::run` meets its contract. Assumes nothing.
-use lib.ListN.{drop, length-append, length-drop}
 use Rattle.machine_cells.specs.Laws.Served.{no_cells}
 use Rattle.table_plain_run.specs.Steps.{answers}
-use native.Mathlib.Omega.{arith}
-use mathlib.Core.Path.{◌∙◌, ◌≡◌, sym, refl}
-use lib.Seq.{length-take-le}
-use lib.ListN.{length}
 use borrow.Author.Rules.{rules}
 use Rattle.table_plain_run.proofs.run.Goals as goal
 

@@ -1,20 +1,14 @@
 -- `walk` meets its contract, the branches that are left falling at each fork. Assumes nothing.
-use mathlib.Core.List.{[], ◌∷◌}
-use mathlib.Core.Logic.{⊎_elim}
-use types.Run.{OneOf}
-use denote.Enum.Declared.{tag_of}
-use Rattle.machine_commands.specs.contracts.Next.{the_type}
 use Rattle.machine_commands.specs.declared.Control.{Control}
 use Rattle.machine_commands.specs.declared.Next.{Next}
 use Rattle.machine_commands.specs.declared.Next.TheVariants.{On, Returned, Failed, Vanished, Error, Fork}
 use Rattle.table_branch.specs.Steps.{waits_branches, waits_held}
 use Rattle.table_walk.specs.Steps.{NoFork, is_on, is_returned, is_failed, is_vanished, is_error}
 use native.Mathlib.Omega.{arith}
-use Prim.Native.Nat.{◌-◌, ◌+◌}
-use borrow.Author.Rules.{rules}
+use Prim.Native.Nat.{◌+◌}
 use mathlib.Core.Path.{◌≡◌, refl}
 use Rattle.table_walk.specs.Steps.{pool-full, a-row, no-branch-left, first-refused, both}
-use Prim.Native.Nat.{ℕ, ◌<◌}
+use Prim.Native.Nat.{ℕ}
 use Rattle.table_walk.proofs.+walk.Goals as goal
 
 no_fork : (x : Next) → ((t : ℕ) (a b : Control) → x ≡ Fork t a b → ⊥) → NoFork x

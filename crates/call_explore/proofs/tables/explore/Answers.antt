@@ -1,8 +1,5 @@
 -- `call_explore::tables::explore` meets its contract. Assumes nothing.
-use lib.Seq.{length-take-le}
-use mathlib.Core.Path.{sym}
 use Rattle.call_explore.specs.Steps.{leaves}
-use borrow.Author.Rules.{rules}
 use Rattle.call_explore.proofs.tables.explore.Goals as goal
 
 pub returns : goal.returns
