@@ -327,13 +327,13 @@ module _ (M : Model) where
   unfoldable pub dropped : (l : ℕ) → Memory M.Term → Act M (Answer M.Term)
   dropped l m = give (record { value = const (boolean true); memory = with_cells (without_cells l m.cells) m })
 
-  -- "`u_sym` gives the next location of this path"
+  -- "`uSym` gives the next location of this path"
   unfoldable pub fresh_location : (j : ℕ) → Memory M.Term → Act M (Answer M.Term)
   fresh_location j m = do
     must (ltb m.counters.locations most_locations) seventeenth_location
     give (record { value = const (location m.counters.locations); memory = counting with_location m })
 
-  -- "`i_sym` the next input, always a number"
+  -- "`iSym` the next input, always a number"
   unfoldable pub fresh_input : (j : ℕ) → Memory M.Term → Act M (Answer M.Term)
   fresh_input j m = do
     must (ltb m.counters.inputs most_inputs) seventeenth_input

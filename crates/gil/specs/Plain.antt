@@ -10,7 +10,7 @@ use Rattle.gil.specs.Rows.{Row, row_of, Path, ended, cut_for, steps}
 unfoldable pub no_sort : ⊥ → Sort
 no_sort t = absurd t
 
--- `i_sym` yields the input itself. No operator is ever asked to make a term here: all its operands are constants.
+-- `iSym` yields the input itself. No operator is ever asked to make a term here: all its operands are constants.
 unfoldable pub known : List ℕ → Unit {0} → Node ⊥ → Unit {0} × Value ⊥
 known inputs w (input k) = (tt, const (number (get_or inputs k 0)))
 known inputs w (neg a) = (tt, const (boolean false))

@@ -99,7 +99,7 @@ pub data Node (T : Type 0) : Type 0 where
   neg : Value T → Node T
   bin : Op → Value T → Value T → Node T
 
--- "`i_sym` the next input, always a number": the sort of what an operator makes
+-- "`iSym` the next input, always a number": the sort of what an operator makes
 unfoldable pub op_gives_number : Op → Bool
 op_gives_number plus = true
 op_gives_number minus = true

@@ -1,6 +1,6 @@
 // One command of the engine. Control goes in and comes back by value; variables and return places stand in the lent store, terms in the lent
 // pool. `step` takes every command but the three actions on cells, which crates/machine_actions has, so that nothing here sees a cell. Each
-// command's errors come in document 01's order, and a command that errs, ends or forks leaves the store as it was. With known inputs `i_sym`
+// command's errors come in document 01's order, and a command that errs, ends or forks leaves the store as it was. With known inputs `iSym`
 // yields the input itself, so that no term is made and no fork taken. Words are read as they stand; crates/machine_laws shows that on a program's
 // words one command here is one move of document 01's machine.
 #![tactic(auto)]
@@ -261,7 +261,7 @@ fn with_input(c: Control) -> Control
     }
 }
 
-// "`u_sym` gives the next location of this path"
+// "`uSym` gives the next location of this path"
 fn locate(c: Control, x: u32, store: &mut [u64; STORE_WORDS]) -> Next
     ensures { acted result store.new ≡ locate_in c x store.old }
 {
@@ -289,7 +289,7 @@ fn input(
     terms::input(pool, count, i)
 }
 
-// "`i_sym` the next input": known, or a term
+// "`iSym` the next input": known, or a term
 fn receive(
     c: Control,
     x: u32,

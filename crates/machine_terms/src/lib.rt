@@ -43,7 +43,7 @@ fn make(pool: &mut [u8], count: &mut u32, kind: u32, a: u64, b: u64) -> u32
     k
 }
 
-// "`i_sym` the next input, always a number"
+// "`iSym` the next input, always a number"
 pub fn input(pool: &mut [u8], count: &mut u32, i: Input) -> u64
     ensures { did result pool.new count.new ≡ input_in i.0 pool.old count.old }
 {

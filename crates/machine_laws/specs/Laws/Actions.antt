@@ -169,7 +169,7 @@ module _ {M : Model} (E : Engine M) (p : Program) {s : State M.Term} {c : Contro
       (λ l. dropped_as m.target l hx world)
       (erred E p wrong_sort world)
 
-  -- `u_sym`
+  -- `uSym`
   located_by : {w : M.World} {pool : List ℕ} {count : ℕ} (x : ℕ) (b : Bool) → ltb s.memory.counters.locations most_locations ≡ b → here x
       → E.WorldAs w pool count
       → SteppedAs E p store ds
@@ -192,7 +192,7 @@ module _ {M : Model} (E : Engine M) (p : Program) {s : State M.Term} {c : Contro
   unfolding fresh_location
   locate_as x j hx world = located_by x (ltb s.memory.counters.locations most_locations) refl hx world
 
-  -- `i_sym`
+  -- `iSym`
   received_by : {w : M.World} {pool : List ℕ} {count : ℕ} (x : ℕ) (b : Bool) → ltb s.memory.counters.inputs most_inputs ≡ b → here x
       → E.WorldAs w pool count
       → SteppedAs E p store ds
