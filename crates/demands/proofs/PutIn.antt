@@ -12,7 +12,7 @@ use Rattle.gil.specs.Names.{gather}
 use Rattle.gil.specs.Values.{Constant, Value, const}
 use Rattle.gil.specs.Machine.{Cell, returned, failed, vanished, error}
 use Rattle.gil.specs.Rows.{steps, branches, Outcome, ended, cut, Row}
-use Rattle.gil.specs.Pool.{Ref, numberTerm, booleanTerm, place_in, Pool, value_of}
+use Rattle.gil.specs.Pool.{Ref, number_term, boolean_term, place_in, Pool, value_of}
 use Rattle.gil.specs.Accounts as Accounts
 use Rattle.gil.specs.Numbers.{as_returned, as_failed, as_cut, head_room, conditions_room, variables_room, cells_room}
 use Rattle.gil.specs.Layout.{word_bytes, row_bytes, answer_bytes, room, parts_words, bit, constant_words, value_words, variable_words, cell_words, end_words, outcome_words, head_words, row_parts, row_words, reason_code, ref_tag, no_number}
@@ -115,8 +115,8 @@ module _ {w : Pool} {cs : List Constant} {vs : List ℕ} (values : ValuesAs w cs
   put-value (fits_number h) = refl
   put-value fits_truth = refl
   put-value (fits_location h) = refl
-  put-value (fits_term {r = numberTerm k} f) = packed-words (values.each k f.there).is
-  put-value (fits_term {r = booleanTerm k} f) = packed-words (values.each k f.there).is
+  put-value (fits_term {r = number_term k} f) = packed-words (values.each k f.there).is
+  put-value (fits_term {r = boolean_term k} f) = packed-words (values.each k f.there).is
 
   variable_put :
       (v : Option (Value Ref)) → VariableFits w v → (rest : List ℕ)

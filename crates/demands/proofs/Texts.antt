@@ -11,13 +11,13 @@ use Rattle.gil.specs.Tree.{Proc, Name}
 use Rattle.gil.specs.Reading.{Read, faulty, read, procedures}
 use Rattle.gil.specs.Names.{Program, Checked, refused, accepted, over_limits, wrong_names, wrong_jump, wrong_end, refused_if, tested, check_text}
 use Rattle.gil.proofs.Theory.Tests.{chosen, no_false}
-use Rattle.demands.specs.Reasons.{TextReason, too_long, not_of_the_form, over_aLimit, wrong_name, jumps_past, ends_open}
+use Rattle.demands.specs.Reasons.{TextReason, too_long, not_of_the_form, over_a_limit, wrong_name, jumps_past, ends_open}
 use Rattle.demands.proofs.Orders.{Lowest}
 
 pub text_range : {text : List ℕ} {n : ℕ} → TextReason text n → (for_length ≤ n) × (n ≤ for_end)
 text_range (too_long h) = omega arith
 text_range (not_of_the_form e) = omega arith
-text_range (over_aLimit e t) = omega arith
+text_range (over_a_limit e t) = omega arith
 text_range (wrong_name e t) = omega arith
 text_range (jumps_past e t) = omega arith
 text_range (ends_open e t) = omega arith
@@ -38,7 +38,7 @@ module _ {text : List ℕ} {ps : List (Proc Name)} {next : ℕ} (is : procedures
   not_4 (not_of_the_form e) = let z : ◌≡◌ {A = ℕ} 0 1 = cc in omega arith
 
   not_5 : over_limits ps ≡ false → TextReason text for_limits → ⊥
-  not_5 f (over_aLimit e t) = passed over_limits is f e t
+  not_5 f (over_a_limit e t) = passed over_limits is f e t
 
   not_6 : wrong_names ps ≡ false → TextReason text for_names → ⊥
   not_6 f (wrong_name e t) = passed wrong_names is f e t
@@ -78,7 +78,7 @@ module _ (text : List ℕ) where
   unfolding tested Below
   tested-outcome below faulty e = is_wrong (not_of_the_form e, below)
   tested-outcome below (read ps next) e =
-      refused_if_lem (over_limits ps) for_limits _ (next-below for_form below (not_4 e)) (over_aLimit e) (not_5 e) λ below-6.
+      refused_if_lem (over_limits ps) for_limits _ (next-below for_form below (not_4 e)) (over_a_limit e) (not_5 e) λ below-6.
       refused_if_lem (wrong_names ps) for_names _ below-6 (wrong_name e) (not_6 e) λ below-7.
       refused_if_lem (wrong_jump ps) for_jump _ below-7 (jumps_past e) (not_7 e) λ below-8.
       refused_if_lem (wrong_end ps) for_end _ below-8 (ends_open e) (not_8 e) λ below-9.

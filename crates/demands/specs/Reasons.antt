@@ -22,7 +22,7 @@ pub data TextReason (text : List ℕ) : ℕ → Type 0 where
   -- "text is not of the form above"
   not_of_the_form : procedures text ≡ faulty → TextReason text for_form
   -- "over 16 procedures, 512 commands in all, 16 variables in a procedure (parameter included), or 32 distinct properties"
-  over_aLimit : {ps : List (Proc Name)} {next : ℕ} → procedures text ≡ read ps next → over_limits ps ≡ true → TextReason text for_limits
+  over_a_limit : {ps : List (Proc Name)} {next : ℕ} → procedures text ≡ read ps next → over_limits ps ≡ true → TextReason text for_limits
   -- "two procedures of one name, a call of a procedure that is not there, or no `main`"
   wrong_name : {ps : List (Proc Name)} {next : ℕ} → procedures text ≡ read ps next → wrong_names ps ≡ true → TextReason text for_names
   -- "a jump number not below its procedure's count of commands"

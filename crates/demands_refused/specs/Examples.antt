@@ -21,7 +21,7 @@ use Rattle.gil.specs.Plain.{plain_run}
 use Rattle.gil.specs.Explore
 use Rattle.gil.specs.Explore.{explored}
 use Rattle.gil.specs.Pool
-use Rattle.gil.specs.Pool.{Ref, numberTerm, booleanTerm, Pool, table, pool_values, meets}
+use Rattle.gil.specs.Pool.{Ref, number_term, boolean_term, Pool, table, pool_values, meets}
 use Rattle.gil.specs.Layout as Layout
 use Rattle.gil.specs.Layout.{input_words}
 
@@ -71,19 +71,19 @@ program_a =
     }
 
 unfoldable pub terms_a : Pool
-terms_a = input 0 ∷ input 1 ∷ bin less (term (numberTerm 0)) (term (numberTerm 1)) ∷ []
+terms_a = input 0 ∷ input 1 ∷ bin less (term (number_term 0)) (term (number_term 1)) ∷ []
 
 -- its first row and its second
 unfoldable pub row_a : Row Ref
 row_a =
     record {
-      outcome = ended (failed (term (numberTerm 1)));
+      outcome = ended (failed (term (number_term 1)));
       steps = 4;
       procedure = 0;
       command = 5;
       inputs = 2;
-      conditions = record { term = booleanTerm 2; truth = true } ∷ [];
-      variables = some (const (number 0)) ∷ some (term (numberTerm 0)) ∷ some (term (numberTerm 1)) ∷ none ∷ [];
+      conditions = record { term = boolean_term 2; truth = true } ∷ [];
+      variables = some (const (number 0)) ∷ some (term (number_term 0)) ∷ some (term (number_term 1)) ∷ none ∷ [];
       cells = [];
     }
 
@@ -95,8 +95,8 @@ row_a' =
       procedure = 0;
       command = 4;
       inputs = 2;
-      conditions = record { term = booleanTerm 2; truth = false } ∷ [];
-      variables = some (const (number 0)) ∷ some (term (numberTerm 0)) ∷ some (term (numberTerm 1)) ∷ some (const (number 1)) ∷ [];
+      conditions = record { term = boolean_term 2; truth = false } ∷ [];
+      variables = some (const (number 0)) ∷ some (term (number_term 0)) ∷ some (term (number_term 1)) ∷ some (const (number 1)) ∷ [];
       cells = [];
     }
 

@@ -22,7 +22,7 @@ use Rattle.gil.specs.Explore.{Explored, explored}
 use Rattle.gil.specs.Pool
 use Rattle.gil.specs.Printed
 use Rattle.gil.specs.Printed.{explored_text}
-use Rattle.gil.specs.Pool.{Ref, numberTerm, booleanTerm, Pool, table, placed}
+use Rattle.gil.specs.Pool.{Ref, number_term, boolean_term, Pool, table, placed}
 
 -- what is asked of a text, and what it answers
 pub data Ask : Type 0 where
@@ -98,7 +98,7 @@ module _ {T : Type 0} where
 
 -- a number term as a value, and in a variable
 t : ℕ → Value Ref
-t k = term (numberTerm k)
+t k = term (number_term k)
 
 vt : ℕ → Option (Value Ref)
 vt k = some (t k)
@@ -127,8 +127,8 @@ starred =
       ask = full;
       answer =
           table_of (input 0 ∷ input 1 ∷ bin less (t 0) (t 1) ∷ [])
-          (line (ended (failed (t 1))) 4 0 5 2 (when (booleanTerm 2) true ∷ []) (n 0 ∷ vt 0 ∷ vt 1 ∷ unbound ∷ []) []
-          ∷ line (ended (returned (const (number 1)))) 5 0 4 2 (when (booleanTerm 2) false ∷ []) (n 0 ∷ vt 0 ∷ vt 1 ∷ n 1 ∷ []) []
+          (line (ended (failed (t 1))) 4 0 5 2 (when (boolean_term 2) true ∷ []) (n 0 ∷ vt 0 ∷ vt 1 ∷ unbound ∷ []) []
+          ∷ line (ended (returned (const (number 1)))) 5 0 4 2 (when (boolean_term 2) false ∷ []) (n 0 ∷ vt 0 ∷ vt 1 ∷ n 1 ∷ []) []
           ∷ []);
     }
     ∷ record {
@@ -262,8 +262,8 @@ ours =
       ask = explores 1024 1;
       answer =
           table_of (input 0 ∷ bin less (t 0) (const (number 5)) ∷ input 1 ∷ bin less (t 2) (const (number 5)) ∷ [])
-          (line (cut branches) 3 0 1 2 (when (booleanTerm 1) true ∷ []) (n 0 ∷ vt 2 ∷ []) []
-          ∷ line (ended (returned (t 0))) 3 0 2 1 (when (booleanTerm 1) false ∷ []) (n 0 ∷ vt 0 ∷ []) []
+          (line (cut branches) 3 0 1 2 (when (boolean_term 1) true ∷ []) (n 0 ∷ vt 2 ∷ []) []
+          ∷ line (ended (returned (t 0))) 3 0 2 1 (when (boolean_term 1) false ∷ []) (n 0 ∷ vt 0 ∷ []) []
           ∷ []);
     }
     -- steps are tested before branches, and then nothing is evaluated
@@ -277,9 +277,9 @@ ours =
       text = main "a := iSym_0; ifgoto not (a = 5) 2; b := iSym_1; return b;";
       ask = full;
       answer =
-          table_of (input 0 ∷ bin equal (t 0) (const (number 5)) ∷ neg (term (booleanTerm 1)) ∷ input 1 ∷ input 1 ∷ [])
-          (line (ended (returned (t 3))) 4 0 3 2 (when (booleanTerm 2) true ∷ []) (n 0 ∷ vt 0 ∷ vt 3 ∷ []) []
-          ∷ line (ended (returned (t 4))) 4 0 3 2 (when (booleanTerm 2) false ∷ []) (n 0 ∷ vt 0 ∷ vt 4 ∷ []) []
+          table_of (input 0 ∷ bin equal (t 0) (const (number 5)) ∷ neg (term (boolean_term 1)) ∷ input 1 ∷ input 1 ∷ [])
+          (line (ended (returned (t 3))) 4 0 3 2 (when (boolean_term 2) true ∷ []) (n 0 ∷ vt 0 ∷ vt 3 ∷ []) []
+          ∷ line (ended (returned (t 4))) 4 0 3 2 (when (boolean_term 2) false ∷ []) (n 0 ∷ vt 0 ∷ vt 4 ∷ []) []
           ∷ []);
     }
     -- a number term as a jump's condition is error 2 and a step, also where the branches are used up

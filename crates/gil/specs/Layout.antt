@@ -8,7 +8,7 @@ use Rattle.gil.specs.Names.{gather}
 use Rattle.gil.specs.Values.{Constant, number, boolean, location, Value, const, term, Node, input, neg, bin}
 use Rattle.gil.specs.Machine.{Cell, End, returned, failed, vanished, error}
 use Rattle.gil.specs.Rows.{Condition, Reason, steps, branches, Outcome, ended, cut, Row}
-use Rattle.gil.specs.Pool.{Ref, numberTerm, booleanTerm, place_in, Pool}
+use Rattle.gil.specs.Pool.{Ref, number_term, boolean_term, place_in, Pool}
 
 unfoldable pub word_bytes : ℕ → List ℕ
 word_bytes n = n % 256 ∷ n / 256 % 256 ∷ n / 65536 % 256 ∷ n / 16777216 % 256 ∷ []
@@ -101,8 +101,8 @@ module _ {T : Type 0} (tag place : T → ℕ) where
 
 -- a row of the table, whose terms are in the pool, and the plain run's answer, which has no terms
 unfoldable pub ref_tag : Ref → ℕ
-ref_tag (numberTerm k) = number_term_tag
-ref_tag (booleanTerm k) = boolean_term_tag
+ref_tag (number_term k) = number_term_tag
+ref_tag (boolean_term k) = boolean_term_tag
 
 unfoldable pub op_code : Op → ℕ
 op_code plus = plus_kind

@@ -9,22 +9,22 @@ use Rattle.gil.specs.Explore.{Explored, explore}
 
 -- a number term or a boolean term, by its place in the pool: no term is ever a location
 pub data Ref : Type 0 where
-  numberTerm booleanTerm : ℕ → Ref
+  number_term boolean_term : ℕ → Ref
 
 unfoldable pub ref_sort : Ref → Sort
-ref_sort (numberTerm k) = numbers
-ref_sort (booleanTerm k) = booleans
+ref_sort (number_term k) = numbers
+ref_sort (boolean_term k) = booleans
 
 unfoldable pub place_in : Ref → ℕ
-place_in (numberTerm k) = k
-place_in (booleanTerm k) = k
+place_in (number_term k) = k
+place_in (boolean_term k) = k
 
 abbrev pub Pool : Type 0
 Pool = List (Node Ref)
 
 unfoldable pub ref_to : Bool → ℕ → Ref
-ref_to true k = numberTerm k
-ref_to false k = booleanTerm k
+ref_to true k = number_term k
+ref_to false k = boolean_term k
 
 unfoldable pub added : Pool → Node Ref → Pool × Value Ref
 added w n = (w ++ (n ∷ []), term (ref_to (gives_number n) (length w)))

@@ -2,7 +2,7 @@
 -- in it, and gives what it read and the place after it, or `faulty`: refusal 4. Assumes nothing.
 use Rattle.std.specs.Prelude.{ℕ, zero, suc, Bool, true, false, List, [], ◌∷◌, length, eqb}
 use Rattle.gil.specs.Numbers.{most_depth}
-use Rattle.gil.specs.Text.{Token, word, property, becomes, mark, ended, lexeme, Word, name, number, key, u_site, i_site, fault, word_of, Key, kIfgoto, kReturn, kFail, kVanish, kTrue, kFalse, kNot, kAnd, kOr, kLookup, kMutate, kDispose}
+use Rattle.gil.specs.Text.{Token, word, property, becomes, mark, ended, lexeme, Word, name, number, key, u_site, i_site, fault, word_of, Key, k_ifgoto, k_return, k_fail, k_vanish, k_true, k_false, k_not, k_and, k_or, k_lookup, k_mutate, k_dispose}
 use Rattle.gil.specs.Tree.{Op, plus, minus, equal, less, and, or, Expr, num, bool, var, neg, bin, Cmd, assign, ifgoto, call, lookup, mutate, dispose, u_sym, i_sym, return, fail, vanish, Proc, Name}
 
 infixl 10 ◌>>=◌
@@ -123,18 +123,18 @@ op_mark b =
     ]
 
 unfoldable pub op_key : Key → Reader Op
-op_key kAnd = done and
-op_key kOr = done or
-op_key kIfgoto = nothing
-op_key kReturn = nothing
-op_key kFail = nothing
-op_key kVanish = nothing
-op_key kTrue = nothing
-op_key kFalse = nothing
-op_key kNot = nothing
-op_key kLookup = nothing
-op_key kMutate = nothing
-op_key kDispose = nothing
+op_key k_and = done and
+op_key k_or = done or
+op_key k_ifgoto = nothing
+op_key k_return = nothing
+op_key k_fail = nothing
+op_key k_vanish = nothing
+op_key k_true = nothing
+op_key k_false = nothing
+op_key k_not = nothing
+op_key k_lookup = nothing
+op_key k_mutate = nothing
+op_key k_dispose = nothing
 
 unfoldable pub op_word : Word → Reader Op
 op_word (name w) = nothing
@@ -170,18 +170,18 @@ bracketed e = do
   done (bin o a b)
 
 unfoldable pub expr_key : Reader (Expr Name) → Key → Reader (Expr Name)
-expr_key e kTrue = done (bool true)
-expr_key e kFalse = done (bool false)
-expr_key e kNot = negation e
-expr_key e kIfgoto = nothing
-expr_key e kReturn = nothing
-expr_key e kFail = nothing
-expr_key e kVanish = nothing
-expr_key e kAnd = nothing
-expr_key e kOr = nothing
-expr_key e kLookup = nothing
-expr_key e kMutate = nothing
-expr_key e kDispose = nothing
+expr_key e k_true = done (bool true)
+expr_key e k_false = done (bool false)
+expr_key e k_not = negation e
+expr_key e k_ifgoto = nothing
+expr_key e k_return = nothing
+expr_key e k_fail = nothing
+expr_key e k_vanish = nothing
+expr_key e k_and = nothing
+expr_key e k_or = nothing
+expr_key e k_lookup = nothing
+expr_key e k_mutate = nothing
+expr_key e k_dispose = nothing
 
 unfoldable pub expr_word : Reader (Expr Name) → Word → Reader (Expr Name)
 expr_word e (name w) = done (var w)
@@ -264,18 +264,18 @@ dispose_of v = do
   done (dispose v e)
 
 unfoldable pub value_key : Name → Key → Reader (Cmd Name)
-value_key v kLookup = token >> lookup_of v
-value_key v kMutate = token >> mutate_of v
-value_key v kDispose = token >> dispose_of v
-value_key v kTrue = assignment v
-value_key v kFalse = assignment v
-value_key v kNot = assignment v
-value_key v kIfgoto = nothing
-value_key v kReturn = nothing
-value_key v kFail = nothing
-value_key v kVanish = nothing
-value_key v kAnd = nothing
-value_key v kOr = nothing
+value_key v k_lookup = token >> lookup_of v
+value_key v k_mutate = token >> mutate_of v
+value_key v k_dispose = token >> dispose_of v
+value_key v k_true = assignment v
+value_key v k_false = assignment v
+value_key v k_not = assignment v
+value_key v k_ifgoto = nothing
+value_key v k_return = nothing
+value_key v k_fail = nothing
+value_key v k_vanish = nothing
+value_key v k_and = nothing
+value_key v k_or = nothing
 
 unfoldable pub value_word : Name → Word → Reader (Cmd Name)
 value_word v (name f) = named v
@@ -310,18 +310,18 @@ ending_of c = do
   done (c e)
 
 unfoldable pub command_key : Key → Reader (Cmd Name)
-command_key kIfgoto = jump_of
-command_key kReturn = ending_of return
-command_key kFail = ending_of fail
-command_key kVanish = done vanish
-command_key kTrue = nothing
-command_key kFalse = nothing
-command_key kNot = nothing
-command_key kAnd = nothing
-command_key kOr = nothing
-command_key kLookup = nothing
-command_key kMutate = nothing
-command_key kDispose = nothing
+command_key k_ifgoto = jump_of
+command_key k_return = ending_of return
+command_key k_fail = ending_of fail
+command_key k_vanish = done vanish
+command_key k_true = nothing
+command_key k_false = nothing
+command_key k_not = nothing
+command_key k_and = nothing
+command_key k_or = nothing
+command_key k_lookup = nothing
+command_key k_mutate = nothing
+command_key k_dispose = nothing
 
 unfoldable pub command_word : Word → Reader (Cmd Name)
 command_word (name v) = setting_of v

@@ -92,22 +92,22 @@ lexeme s at = let i = skip_white s at in token_from s i (drop i s)
 
 -- the reserved words, listed in one place
 pub data Key : Type 0 where
-  kIfgoto kReturn kFail kVanish kTrue kFalse kNot kAnd kOr kLookup kMutate kDispose : Key
+  k_ifgoto k_return k_fail k_vanish k_true k_false k_not k_and k_or k_lookup k_mutate k_dispose : Key
 
 unfoldable pub reserved_words : List (List ℕ × Key)
 reserved_words =
-    (bytes "ifgoto", kIfgoto)
-    ∷ (bytes "return", kReturn)
-    ∷ (bytes "fail", kFail)
-    ∷ (bytes "vanish", kVanish)
-    ∷ (bytes "true", kTrue)
-    ∷ (bytes "false", kFalse)
-    ∷ (bytes "not", kNot)
-    ∷ (bytes "and", kAnd)
-    ∷ (bytes "or", kOr)
-    ∷ (bytes "lookup", kLookup)
-    ∷ (bytes "mutate", kMutate)
-    ∷ (bytes "dispose", kDispose)
+    (bytes "ifgoto", k_ifgoto)
+    ∷ (bytes "return", k_return)
+    ∷ (bytes "fail", k_fail)
+    ∷ (bytes "vanish", k_vanish)
+    ∷ (bytes "true", k_true)
+    ∷ (bytes "false", k_false)
+    ∷ (bytes "not", k_not)
+    ∷ (bytes "and", k_and)
+    ∷ (bytes "or", k_or)
+    ∷ (bytes "lookup", k_lookup)
+    ∷ (bytes "mutate", k_mutate)
+    ∷ (bytes "dispose", k_dispose)
     ∷ []
 
 -- "and all identifiers that begin `uSym_` or `iSym_`"

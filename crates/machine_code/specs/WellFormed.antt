@@ -34,8 +34,8 @@ pub data CmdFits (variables procedures : ℕ) : Cmd ℕ → Type 0 where
       → ExprFits variables most_depth d
       → CmdFits variables procedures (mutate x e q d)
   a_dispose : {x : ℕ} {e : Expr ℕ} → x < variables → ExprFits variables most_depth e → CmdFits variables procedures (dispose x e)
-  a_uSym : {x j : ℕ} → x < variables → j < 4294967296 → CmdFits variables procedures (u_sym x j)
-  an_iSym : {x j : ℕ} → x < variables → j < 4294967296 → CmdFits variables procedures (i_sym x j)
+  a_u_sym : {x j : ℕ} → x < variables → j < 4294967296 → CmdFits variables procedures (u_sym x j)
+  an_i_sym : {x j : ℕ} → x < variables → j < 4294967296 → CmdFits variables procedures (i_sym x j)
   a_return : {e : Expr ℕ} → ExprFits variables most_depth e → CmdFits variables procedures (return e)
   a_fail : {e : Expr ℕ} → ExprFits variables most_depth e → CmdFits variables procedures (fail e)
   a_vanish : CmdFits variables procedures vanish

@@ -3,7 +3,7 @@
 // after them, so no more is read.
 #![tactic(auto)]
 
-ghost use Rattle.std.specs.Prelude.{◌+◌, ◌≤◌, length, IfOk};
+ghost use Rattle.std.specs.Prelude.{◌≡◌, ◌+◌, ◌≤◌, length, IfOk, OnErr};
 ghost use Rattle.std.specs.Io.{ReadsAtMost};
 
 use gil::limits::MOST_BYTES;
@@ -13,17 +13,19 @@ use std::io::Read;
 
 const ROOM: usize = MOST_BYTES + 1;
 
-// One read, into `text` from place n on: how many bytes it gave
+// One read, into `text` from place n on: how many bytes it gave. One that fails leaves `text` as long as it was, as any read does.
 fn read_on<R: Read>(input: &mut R, text: &mut [u8], n: usize) -> io::Result<usize>
     requires { n ≤ length text.old }
-    ensures { IfOk result (λ more. n + more ≤ length text.new) }
+    ensures ok { IfOk result (λ more. n + more ≤ length text.new) }
+    ensures err { OnErr result (length text.new ≡ length text.old) }
 {
     input.read(&mut text[n..])
 }
 
 // Reads until the input ends, the room is full or a read fails: how many bytes stand at the start of `text`
 fn read_text<R: Read>(input: &mut R, text: &mut [u8]) -> io::Result<usize>
-    ensures { ReadsAtMost result text.new }
+    ensures ok { ReadsAtMost result text.new }
+    ensures err { OnErr result (length text.new ≡ length text.old) }
 {
     let mut n = 0;
     while n < text.len() {

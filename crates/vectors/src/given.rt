@@ -1,6 +1,6 @@
 // The program's arguments: the names of calls and of files, and numbers. Each is printed where it is read, so that a vector's line begins with what
 // it was given.
-ghost use Rattle.std.specs.Prelude.{◌<◌};
+ghost use Rattle.std.specs.Prelude.{◌≡◌, ◌<◌, length, OnErr};
 ghost use Rattle.std.specs.Io.{ReadsAtMost};
 
 use std::env::FillError;
@@ -22,7 +22,8 @@ pub fn is_given<R: Env>(rt: &R, i: usize) -> bool {
 
 // Reads until buf is full or the file ends, and answers how many bytes stand at the start of buf.
 fn read_full<F: Read>(file: &mut F, buf: &mut [u8]) -> io::Result<usize>
-    ensures { ReadsAtMost result buf.new }
+    ensures ok { ReadsAtMost result buf.new }
+    ensures err { OnErr result (length buf.new ≡ length buf.old) }
 {
     let mut done = 0;
     while done < buf.len() {
@@ -35,9 +36,11 @@ fn read_full<F: Read>(file: &mut F, buf: &mut [u8]) -> io::Result<usize>
     Ok(done)
 }
 
-// Puts what a file holds at the start of buf, as much as it has room for, and answers how many bytes.
+// Puts what a file holds at the start of buf, as much as it has room for, and answers how many bytes. Where the file cannot be opened or read, or its
+// name is no text, that is the error; buf then holds what was read before it, in its own length.
 fn read<R: Files>(rt: &R, path: &[u8], buf: &mut [u8]) -> io::Result<usize>
-    ensures { ReadsAtMost result buf.new }
+    ensures ok { ReadsAtMost result buf.new }
+    ensures err { OnErr result (length buf.new ≡ length buf.old) }
 {
     let Ok(path) = str::from_utf8(path) else {
         return Err(io::Error::from(io::ErrorKind::InvalidInput));
@@ -48,7 +51,8 @@ fn read<R: Files>(rt: &R, path: &[u8], buf: &mut [u8]) -> io::Result<usize>
 
 // Puts argument i at the start of buf, prints it, and answers how many bytes it has: none where it is missing or has no room.
 fn word<R: Env, W: Write>(rt: &R, out: &mut W, i: usize, buf: &mut [u8]) -> io::Result<usize>
-    ensures { ReadsAtMost result buf.new }
+    ensures ok { ReadsAtMost result buf.new }
+    ensures err { OnErr result (length buf.new ≡ length buf.old) }
 {
     let length = rt.arg(i, buf).unwrap_or(0);
     text(out, &buf[..length])?;
@@ -63,7 +67,8 @@ pub fn file<R: Env + Files, W: Write>(
     i: usize,
     buf: &mut [u8],
 ) -> io::Result<usize>
-    ensures { ReadsAtMost result buf.new }
+    ensures ok { ReadsAtMost result buf.new }
+    ensures err { OnErr result (length buf.new ≡ length buf.old) }
 {
     let mut path = [0u8; SMALL];
     let length = word(rt, out, i, &mut path)?;

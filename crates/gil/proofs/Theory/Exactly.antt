@@ -177,13 +177,13 @@ module _ (count : List Tree → ℕ) (p : Program) (inputs : List ℕ) where
         let cs = q.conditions in
         let d : one (met (gained cs t true)) + one (met (gained cs t false)) ≡ one (met cs) = split cs t in
         let c : many row_met rs + (one (met (gained cs t true)) + (one (met (gained cs t false)) + many path_met qs)) ≡ 1 = omega arith in
-        let onTrue : met (gained cs t true) ≡ true → Along (suc q.steps) a =
+        let on_true : met (gained cs t true) ≡ true → Along (suc q.steps) a =
         λ h. after_true (next (met-before cs t true h)) (met-last cs t true h) in
-        let onFalse : met (gained cs t false) ≡ true → Along (suc q.steps) b =
+        let on_false : met (gained cs t false) ≡ true → Along (suc q.steps) b =
         λ h. after_false (next (met-before cs t false h)) (met-last cs t false h) in
         chosen (λ x. Kept (on_turn w rs qs x)) (leb most (length cs))
         (λ t. finish-kept _ e (λ h. ran-cut (so_far h) branches cs))
-        (λ t. exploring c ran (cons onTrue (cons onFalse along)))
+        (λ t. exploring c ran (cons on_true (cons on_false along)))
 
     turned-kept :
         (most : ℕ) (q : Path Tree) (x : Next Tree)

@@ -3,13 +3,13 @@
 use Rattle.std.specs.Prelude.{ℕ, zero, suc, ◌+◌, ◌*◌, ◌≤◌, ◌<◌, ◌≡◌, refl, Bool, List, [], ◌∷◌, length}
 use native.Mathlib.Omega.{arith}
 use Rattle.std.proofs.Math.Bool.{true, false}
-use Rattle.gil.specs.Text.{Token, word, property, becomes, mark, ended, Word, Key, kIfgoto, kReturn, kFail, kVanish, kTrue, kFalse, kNot, kAnd, kOr, kLookup, kMutate, kDispose}
+use Rattle.gil.specs.Text.{Token, word, property, becomes, mark, ended, Word, Key, k_ifgoto, k_return, k_fail, k_vanish, k_true, k_false, k_not, k_and, k_or, k_lookup, k_mutate, k_dispose}
 use Rattle.gil.specs.Tree.{Expr, var, Cmd, assign, ifgoto, call, lookup, mutate, dispose, u_sym, i_sym, return, fail, vanish, Name}
 use Rattle.gil.specs.Reading.{Reader, nothing, is_mark, is_ended, assignment, call_of, call_or_var, named, lookup_of, mutate_of, dispose_of, value_key, value_word, value_from, setting_of, jump_of, ending_of, command_key, command_word, command, or_more, one_or_more, commands_of, commands, procedure, procedures_of, procedures}
 use Rattle.machine_code.specs.WellFormed.{Each, none, more}
 use Rattle.machine_code.proofs.Accepted.Lists.{total}
-use Rattle.machine_code.proofs.Accepted.Tokens.{WordFits, a_name, a_number, a_key, a_uSite, an_iSite, a_fault, word_of-fits, as_word-fits}
-use Rattle.machine_code.proofs.Accepted.Sizes.{expr_size, cmd_size, proc_size, ExprSmall, small_variable, CmdSmall, small_assign, small_jump, small_call, small_lookup, small_mutate, small_dispose, small_uSym, small_iSym, small_return, small_fail, small_vanish, ProcSmall}
+use Rattle.machine_code.proofs.Accepted.Tokens.{WordFits, a_name, a_number, a_key, a_u_site, an_i_site, a_fault, word_of-fits, as_word-fits}
+use Rattle.machine_code.proofs.Accepted.Sizes.{expr_size, cmd_size, proc_size, ExprSmall, small_variable, CmdSmall, small_assign, small_jump, small_call, small_lookup, small_mutate, small_dispose, small_u_sym, small_i_sym, small_return, small_fail, small_vanish, ProcSmall}
 use Rattle.machine_code.proofs.Accepted.Readers.{Given, Reads, nothing-reads, done-reads, reads-to, reads_then, reads_on, token-reads, ahead-reads, the_mark-reads, the_becomes-reads, the_name-reads, the_number-reads, the_property-reads, expr-reads}
 
 -- a command past its first token: twice its words are at most its bytes and one
@@ -83,28 +83,28 @@ module _ (s : List ℕ) (v : Name) (from at : ℕ) (b : from ≤ at) (h : at ≤
 
   value_key-reads : (k : Key) → Reads s (CmdRead from) (value_key v k) at
   unfolding value_key
-  value_key-reads kLookup = reads_on (token-reads s at h) λ _ n k p. lookup_of-reads s v from n (omega arith) k
-  value_key-reads kMutate = reads_on (token-reads s at h) λ _ n k p. mutate_of-reads s v from n (omega arith) k
-  value_key-reads kDispose = reads_on (token-reads s at h) λ _ n k p. dispose_of-reads s v from n (omega arith) k
-  value_key-reads kTrue = assignment-reads s v from at b h
-  value_key-reads kFalse = assignment-reads s v from at b h
-  value_key-reads kNot = assignment-reads s v from at b h
-  value_key-reads kIfgoto = nothing-reads
-  value_key-reads kReturn = nothing-reads
-  value_key-reads kFail = nothing-reads
-  value_key-reads kVanish = nothing-reads
-  value_key-reads kAnd = nothing-reads
-  value_key-reads kOr = nothing-reads
+  value_key-reads k_lookup = reads_on (token-reads s at h) λ _ n k p. lookup_of-reads s v from n (omega arith) k
+  value_key-reads k_mutate = reads_on (token-reads s at h) λ _ n k p. mutate_of-reads s v from n (omega arith) k
+  value_key-reads k_dispose = reads_on (token-reads s at h) λ _ n k p. dispose_of-reads s v from n (omega arith) k
+  value_key-reads k_true = assignment-reads s v from at b h
+  value_key-reads k_false = assignment-reads s v from at b h
+  value_key-reads k_not = assignment-reads s v from at b h
+  value_key-reads k_ifgoto = nothing-reads
+  value_key-reads k_return = nothing-reads
+  value_key-reads k_fail = nothing-reads
+  value_key-reads k_vanish = nothing-reads
+  value_key-reads k_and = nothing-reads
+  value_key-reads k_or = nothing-reads
 
   value_word-reads : {size : ℕ} {w : Word} → WordFits size w → Reads s (CmdRead from) (value_word v w) at
   unfolding value_word cmd_size
   value_word-reads (a_name c) = named-reads
   value_word-reads (a_number c k w) = assignment-reads s v from at b h
   value_word-reads (a_key {k} c) = value_key-reads k
-  value_word-reads (a_uSite {j} c i) =
-      reads_on (token-reads s at h) λ _ n k p. done-reads (u_sym v j) k (record { small = small_uSym i; takes = omega arith })
-  value_word-reads (an_iSite {j} c i) =
-      reads_on (token-reads s at h) λ _ n k p. done-reads (i_sym v j) k (record { small = small_iSym i; takes = omega arith })
+  value_word-reads (a_u_site {j} c i) =
+      reads_on (token-reads s at h) λ _ n k p. done-reads (u_sym v j) k (record { small = small_u_sym i; takes = omega arith })
+  value_word-reads (an_i_site {j} c i) =
+      reads_on (token-reads s at h) λ _ n k p. done-reads (i_sym v j) k (record { small = small_i_sym i; takes = omega arith })
   value_word-reads a_fault = nothing-reads
 
   value_from-reads : (t : Token) → Reads s (CmdRead from) (value_from v t) at
@@ -143,18 +143,18 @@ module _ (s : List ℕ) (at : ℕ) (h : at ≤ length s) where
 
   command_key-reads : (k : Key) → Reads s (CmdRead at) (command_key k) at
   unfolding command_key cmd_size
-  command_key-reads kIfgoto = jump_of-reads
-  command_key-reads kReturn = ending_of-reads return (λ e k. small_return k) (λ e. refl)
-  command_key-reads kFail = ending_of-reads fail (λ e k. small_fail k) (λ e. refl)
-  command_key-reads kVanish = done-reads vanish h (record { small = small_vanish; takes = omega arith })
-  command_key-reads kTrue = nothing-reads
-  command_key-reads kFalse = nothing-reads
-  command_key-reads kNot = nothing-reads
-  command_key-reads kAnd = nothing-reads
-  command_key-reads kOr = nothing-reads
-  command_key-reads kLookup = nothing-reads
-  command_key-reads kMutate = nothing-reads
-  command_key-reads kDispose = nothing-reads
+  command_key-reads k_ifgoto = jump_of-reads
+  command_key-reads k_return = ending_of-reads return (λ e k. small_return k) (λ e. refl)
+  command_key-reads k_fail = ending_of-reads fail (λ e k. small_fail k) (λ e. refl)
+  command_key-reads k_vanish = done-reads vanish h (record { small = small_vanish; takes = omega arith })
+  command_key-reads k_true = nothing-reads
+  command_key-reads k_false = nothing-reads
+  command_key-reads k_not = nothing-reads
+  command_key-reads k_and = nothing-reads
+  command_key-reads k_or = nothing-reads
+  command_key-reads k_lookup = nothing-reads
+  command_key-reads k_mutate = nothing-reads
+  command_key-reads k_dispose = nothing-reads
 
   -- the first token took a byte at least
   command_word-reads :
@@ -163,8 +163,8 @@ module _ (s : List ℕ) (at : ℕ) (h : at ≤ length s) where
   command_word-reads (a_name {w} c) = reads-to (λ _ _ r. (r, omega arith)) (setting_of-reads w)
   command_word-reads (a_number c k w) = nothing-reads
   command_word-reads (a_key {k} c) = reads-to (λ _ _ r. (r, omega arith)) (command_key-reads k)
-  command_word-reads (a_uSite c k) = nothing-reads
-  command_word-reads (an_iSite c k) = nothing-reads
+  command_word-reads (a_u_site c k) = nothing-reads
+  command_word-reads (an_i_site c k) = nothing-reads
   command_word-reads a_fault = nothing-reads
 
 -- an item of a list: `P` holds of it, and twice its size is less than its bytes

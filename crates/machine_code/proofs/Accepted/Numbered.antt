@@ -8,10 +8,10 @@ use Rattle.std.proofs.Math.ListN.{length, length-map}
 use Rattle.gil.specs.Tree.{Expr, num, bool, var, neg, bin, Cmd, assign, ifgoto, call, lookup, mutate, dispose, u_sym, i_sym, return, fail, vanish, Proc, Name}
 use Rattle.gil.specs.Names.{Procedure, place_of, distinct, expr_vars, cmd_vars, cmd_properties, cmd_calls, proc_vars, rename_expr, rename_cmd, number_proc, gather}
 use Rattle.machine_code.specs.Code.{expr_words, cmd_nodes}
-use Rattle.machine_code.specs.WellFormed.{Each, none, more, ExprFits, a_number, a_truth, a_variable, a_not, an_operator, CmdFits, an_assign, a_jump, a_call, a_lookup, a_mutate, a_dispose, a_uSym, an_iSym, a_return, a_fail, a_vanish, ProcedureFits}
+use Rattle.machine_code.specs.WellFormed.{Each, none, more, ExprFits, a_number, a_truth, a_variable, a_not, an_operator, CmdFits, an_assign, a_jump, a_call, a_lookup, a_mutate, a_dispose, a_u_sym, an_i_sym, a_return, a_fail, a_vanish, ProcedureFits}
 use Rattle.machine_code.proofs.Accepted.Lists.{each_to, each_both, each_append, each_map, each-gather, total, total_equal, length-gather, total-gather, total-map}
 use Rattle.machine_code.proofs.Accepted.Places.{Known, place_of-below, place_of-within, distinct-has}
-use Rattle.machine_code.proofs.Accepted.Sizes.{expr_size, cmd_size, proc_size, ExprSmall, small_number, small_truth, small_variable, small_not, small_operator, CmdSmall, small_assign, small_jump, small_call, small_lookup, small_mutate, small_dispose, small_uSym, small_iSym, small_return, small_fail, small_vanish, ProcSmall}
+use Rattle.machine_code.proofs.Accepted.Sizes.{expr_size, cmd_size, proc_size, ExprSmall, small_number, small_truth, small_variable, small_not, small_operator, CmdSmall, small_assign, small_jump, small_call, small_lookup, small_mutate, small_dispose, small_u_sym, small_i_sym, small_return, small_fail, small_vanish, ProcSmall}
 
 -- the size of a tree is how many words `Code` writes for it
 pub expr_words-size : (e : Expr ℕ) → length (expr_words e) ≡ expr_size e
@@ -96,8 +96,8 @@ rename_cmd-fits vs qs fs few (small_mutate {x} {q} {e} {d} h i) (more v es) (mor
     let (a, b) = each_append (expr_vars e) (expr_vars d) es in
     a_mutate (place_of-below x vs v) (rename_expr-fits vs h a) (place_of-within q qs few p) (rename_expr-fits vs i b)
 rename_cmd-fits vs qs fs few (small_dispose {x} h) (more v es) ps cs = a_dispose (place_of-below x vs v) (rename_expr-fits vs h es)
-rename_cmd-fits vs qs fs few (small_uSym {x} {j} k) (more v none) ps cs = a_uSym {j = j} (place_of-below x vs v) (omega arith)
-rename_cmd-fits vs qs fs few (small_iSym {x} {j} k) (more v none) ps cs = an_iSym {j = j} (place_of-below x vs v) (omega arith)
+rename_cmd-fits vs qs fs few (small_u_sym {x} {j} k) (more v none) ps cs = a_u_sym {j = j} (place_of-below x vs v) (omega arith)
+rename_cmd-fits vs qs fs few (small_i_sym {x} {j} k) (more v none) ps cs = an_i_sym {j = j} (place_of-below x vs v) (omega arith)
 rename_cmd-fits vs qs fs few (small_return h) es ps cs = a_return (rename_expr-fits vs h es)
 rename_cmd-fits vs qs fs few (small_fail h) es ps cs = a_fail (rename_expr-fits vs h es)
 rename_cmd-fits vs qs fs few small_vanish es ps cs = a_vanish

@@ -4,11 +4,11 @@ use Rattle.std.specs.Prelude.{ℕ, zero, suc, ◌+◌, ◌*◌, ◌≤◌, ◌<�
 use native.Mathlib.Omega.{arith}
 use Rattle.std.proofs.Math.Path.{refl}
 use Rattle.std.proofs.Math.Bool.{true}
-use Rattle.gil.specs.Text.{Token, word, property, becomes, mark, ended, Word, Key, kIfgoto, kReturn, kFail, kVanish, kTrue, kFalse, kNot, kAnd, kOr, kLookup, kMutate, kDispose}
+use Rattle.gil.specs.Text.{Token, word, property, becomes, mark, ended, Word, Key, k_ifgoto, k_return, k_fail, k_vanish, k_true, k_false, k_not, k_and, k_or, k_lookup, k_mutate, k_dispose}
 use Rattle.gil.specs.Tree.{Op, plus, minus, equal, less, and, or, Expr, num, bool, var, neg, bin, Name}
 use Rattle.gil.specs.Reading.{Read, faulty, read, Reader, after, ◌>>=◌, ◌>>◌, done, nothing, token, ahead, is_mark, is_becomes, so, the_mark, the_becomes, name_of, the_name, number_of, the_number, property_of, the_property, op_mark, op_key, op_word, op_of, the_op, negation, bracketed, expr_key, expr_word, expr_from, expr_deep, expr}
 use Rattle.gil.proofs.Theory.Tests.{chosen}
-use Rattle.machine_code.proofs.Accepted.Tokens.{token_bytes, lexeme-ends, WordFits, a_name, a_number, a_key, a_uSite, an_iSite, a_fault, word_of-fits, as_word-fits}
+use Rattle.machine_code.proofs.Accepted.Tokens.{token_bytes, lexeme-ends, WordFits, a_name, a_number, a_key, a_u_site, an_i_site, a_fault, word_of-fits, as_word-fits}
 use Rattle.machine_code.proofs.Accepted.Sizes.{expr_size, ExprSmall, small_number, small_truth, small_variable, small_not, small_operator}
 
 -- a reader was faulty, or it ended in the text and `P` holds of what it read and where it ended
@@ -101,8 +101,8 @@ module _ {s : List ℕ} (at n : ℕ) (h : n ≤ length s) where
   name_of-reads (a_name {w} b) k = done-reads w h (omega arith)
   name_of-reads (a_number b c w) k = nothing-reads
   name_of-reads (a_key b) k = nothing-reads
-  name_of-reads (a_uSite b c) k = nothing-reads
-  name_of-reads (an_iSite b c) k = nothing-reads
+  name_of-reads (a_u_site b c) k = nothing-reads
+  name_of-reads (an_i_site b c) k = nothing-reads
   name_of-reads a_fault k = nothing-reads
 
   number_of-reads :
@@ -111,8 +111,8 @@ module _ {s : List ℕ} (at n : ℕ) (h : n ≤ length s) where
   number_of-reads (a_name b) k = nothing-reads
   number_of-reads (a_number {n = m} b c w) k = done-reads m h (c, omega arith)
   number_of-reads (a_key b) k = nothing-reads
-  number_of-reads (a_uSite b c) k = nothing-reads
-  number_of-reads (an_iSite b c) k = nothing-reads
+  number_of-reads (a_u_site b c) k = nothing-reads
+  number_of-reads (an_i_site b c) k = nothing-reads
   number_of-reads a_fault k = nothing-reads
 
   property_of-reads : (t : Token) → at + token_bytes t ≤ n → Reads s (λ p next. at < next) (property_of t) n
@@ -136,26 +136,26 @@ module _ {s : List ℕ} (at n : ℕ) (h : n ≤ length s) where
 
   op_key-reads : at < n → (k : Key) → Reads s (λ o next. at < next) (op_key k) n
   unfolding op_key
-  op_key-reads b kAnd = done-reads and h b
-  op_key-reads b kOr = done-reads or h b
-  op_key-reads b kIfgoto = nothing-reads
-  op_key-reads b kReturn = nothing-reads
-  op_key-reads b kFail = nothing-reads
-  op_key-reads b kVanish = nothing-reads
-  op_key-reads b kTrue = nothing-reads
-  op_key-reads b kFalse = nothing-reads
-  op_key-reads b kNot = nothing-reads
-  op_key-reads b kLookup = nothing-reads
-  op_key-reads b kMutate = nothing-reads
-  op_key-reads b kDispose = nothing-reads
+  op_key-reads b k_and = done-reads and h b
+  op_key-reads b k_or = done-reads or h b
+  op_key-reads b k_ifgoto = nothing-reads
+  op_key-reads b k_return = nothing-reads
+  op_key-reads b k_fail = nothing-reads
+  op_key-reads b k_vanish = nothing-reads
+  op_key-reads b k_true = nothing-reads
+  op_key-reads b k_false = nothing-reads
+  op_key-reads b k_not = nothing-reads
+  op_key-reads b k_lookup = nothing-reads
+  op_key-reads b k_mutate = nothing-reads
+  op_key-reads b k_dispose = nothing-reads
 
   op_word-reads : {size : ℕ} {w : Word} → WordFits size w → at + size ≤ n → Reads s (λ o next. at < next) (op_word w) n
   unfolding op_word
   op_word-reads (a_name b) k = nothing-reads
   op_word-reads (a_number b c w) k = nothing-reads
   op_word-reads (a_key {k = w} b) k = op_key-reads (omega arith) w
-  op_word-reads (a_uSite b c) k = nothing-reads
-  op_word-reads (an_iSite b c) k = nothing-reads
+  op_word-reads (a_u_site b c) k = nothing-reads
+  op_word-reads (an_i_site b c) k = nothing-reads
   op_word-reads a_fault k = nothing-reads
 
   op_of-reads : (t : Token) → at + token_bytes t ≤ n → Reads s (λ o next. at < next) (op_of t) n
@@ -217,26 +217,26 @@ module _
 
     expr_key-reads : 2 + at ≤ n → (k : Key) → Reads s (ExprRead (suc d) at) (expr_key p k) n
     unfolding expr_key expr_size
-    expr_key-reads b kTrue = done-reads (bool true) h (record { small = small_truth; takes = omega arith })
-    expr_key-reads b kFalse = done-reads (bool false) h (record { small = small_truth; takes = omega arith })
-    expr_key-reads b kNot = negation-reads b
-    expr_key-reads b kIfgoto = nothing-reads
-    expr_key-reads b kReturn = nothing-reads
-    expr_key-reads b kFail = nothing-reads
-    expr_key-reads b kVanish = nothing-reads
-    expr_key-reads b kAnd = nothing-reads
-    expr_key-reads b kOr = nothing-reads
-    expr_key-reads b kLookup = nothing-reads
-    expr_key-reads b kMutate = nothing-reads
-    expr_key-reads b kDispose = nothing-reads
+    expr_key-reads b k_true = done-reads (bool true) h (record { small = small_truth; takes = omega arith })
+    expr_key-reads b k_false = done-reads (bool false) h (record { small = small_truth; takes = omega arith })
+    expr_key-reads b k_not = negation-reads b
+    expr_key-reads b k_ifgoto = nothing-reads
+    expr_key-reads b k_return = nothing-reads
+    expr_key-reads b k_fail = nothing-reads
+    expr_key-reads b k_vanish = nothing-reads
+    expr_key-reads b k_and = nothing-reads
+    expr_key-reads b k_or = nothing-reads
+    expr_key-reads b k_lookup = nothing-reads
+    expr_key-reads b k_mutate = nothing-reads
+    expr_key-reads b k_dispose = nothing-reads
 
     expr_word-reads : {size : ℕ} {w : Word} → WordFits size w → at + size ≤ n → Reads s (ExprRead (suc d) at) (expr_word p w) n
     unfolding expr_word expr_size
     expr_word-reads (a_name {w} b) k = done-reads (var w) h (record { small = small_variable; takes = omega arith })
     expr_word-reads (a_number {n = m} b c w) k = done-reads (num m) h (record { small = small_number c; takes = omega arith })
     expr_word-reads (a_key {k = w} b) k = expr_key-reads (omega arith) w
-    expr_word-reads (a_uSite b c) k = nothing-reads
-    expr_word-reads (an_iSite b c) k = nothing-reads
+    expr_word-reads (a_u_site b c) k = nothing-reads
+    expr_word-reads (an_i_site b c) k = nothing-reads
     expr_word-reads a_fault k = nothing-reads
 
     expr_from-reads : (t : Token) → at + token_bytes t ≤ n → Reads s (ExprRead (suc d) at) (expr_from p t) n

@@ -46,8 +46,8 @@ pub data CmdSmall : Cmd Name → Type 0 where
   small_lookup : {x q : Name} {e : Expr Name} → ExprSmall 8 e → CmdSmall (lookup x e q)
   small_mutate : {x q : Name} {e d : Expr Name} → ExprSmall 8 e → ExprSmall 8 d → CmdSmall (mutate x e q d)
   small_dispose : {x : Name} {e : Expr Name} → ExprSmall 8 e → CmdSmall (dispose x e)
-  small_uSym : {x : Name} {j : ℕ} → j < 256 → CmdSmall (u_sym x j)
-  small_iSym : {x : Name} {j : ℕ} → j < 256 → CmdSmall (i_sym x j)
+  small_u_sym : {x : Name} {j : ℕ} → j < 256 → CmdSmall (u_sym x j)
+  small_i_sym : {x : Name} {j : ℕ} → j < 256 → CmdSmall (i_sym x j)
   small_return : {e : Expr Name} → ExprSmall 8 e → CmdSmall (return e)
   small_fail : {e : Expr Name} → ExprSmall 8 e → CmdSmall (fail e)
   small_vanish : CmdSmall vanish

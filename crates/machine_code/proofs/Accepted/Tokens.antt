@@ -92,8 +92,8 @@ pub data WordFits (size : ℕ) : Word → Type 0 where
   a_name : {w : Name} → 1 ≤ size → WordFits size (name w)
   a_number : {n : ℕ} → 1 ≤ size → n < 4294967296 → 2 * length (number_words n) ≤ suc size → WordFits size (number n)
   a_key : {k : Key} → 2 ≤ size → WordFits size (key k)
-  a_uSite : {j : ℕ} → 1 ≤ size → j < 256 → WordFits size (u_site j)
-  an_iSite : {j : ℕ} → 1 ≤ size → j < 256 → WordFits size (i_site j)
+  a_u_site : {j : ℕ} → 1 ≤ size → j < 256 → WordFits size (u_site j)
+  an_i_site : {j : ℕ} → 1 ≤ size → j < 256 → WordFits size (i_site j)
   a_fault : WordFits size fault
 
 -- a digit is at most 9, so a number of one or two digits has one word
@@ -135,10 +135,10 @@ symbol-fits : {size : ℕ} → 1 ≤ size → (w : List ℕ) → WordFits size (
 unfolding symbol
 symbol-fits {size} h w =
     chosen (WordFits size) (same (take 5 w) u_sym_prefix)
-    (λ _. numbered-fits 255 u_site (drop 5 w) (λ _ k. a_uSite h (omega arith)))
+    (λ _. numbered-fits 255 u_site (drop 5 w) (λ _ k. a_u_site h (omega arith)))
     λ _.
     chosen (WordFits size) (same (take 5 w) i_sym_prefix)
-    (λ _. numbered-fits 255 i_site (drop 5 w) (λ _ k. an_iSite h (omega arith)))
+    (λ _. numbered-fits 255 i_site (drop 5 w) (λ _ k. an_i_site h (omega arith)))
     λ _. a_name h
 
 -- a run of one character is never a reserved word

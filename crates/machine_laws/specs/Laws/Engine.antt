@@ -15,7 +15,7 @@ use Rattle.gil.specs.Names.{Procedure, Program}
 use Rattle.gil.specs.Machine as Machine
 use Rattle.gil.specs.Machine.{Model, State, move, settled, exec, eval, give, procedure_at, command_at, frames, ◌>>=◌, ◌>>◌}
 use Rattle.machine_code.specs.Code.{expr_words, cmd_nodes, cmd_words, program_words, lookup_kind, mutate_kind, dispose_kind}
-use Rattle.machine_code.specs.WellFormed.{ExprFits, CmdFits, an_assign, a_jump, a_call, a_lookup, a_mutate, a_dispose, a_uSym, an_iSym, a_return, a_fail, a_vanish, WellFormed}
+use Rattle.machine_code.specs.WellFormed.{ExprFits, CmdFits, an_assign, a_jump, a_call, a_lookup, a_mutate, a_dispose, a_u_sym, an_i_sym, a_return, a_fail, a_vanish, WellFormed}
 use Rattle.machine_code.specs.Mirror.{if?}
 use Rattle.machine_terms.specs.Laws.Engine.{Engine, EvalAs}
 use Rattle.machine_evaluate.specs.Mirror.{evaluate_in}
@@ -98,9 +98,9 @@ module _ {M : Model} (E : Engine M) (p : Program) (ok : WellFormed p) {s : State
     exec_as (a_dispose {x} {e} hx fits) at rest nodes w pool count world =
         operand_as E p _ _ (evaluated fits at rest nodes world)
         (λ w v y pool count world a. dispose_as E p h few small (of_words (cmd_words at (dispose x e))) hx world a)
-    exec_as (a_uSym {x} {j} hx hj) at rest nodes w pool count world =
+    exec_as (a_u_sym {x} {j} hx hj) at rest nodes w pool count world =
         locate_as E p h few small x j hx world
-    exec_as (an_iSym {x} {j} hx hj) at rest nodes w pool count world =
+    exec_as (an_i_sym {x} {j} hx hj) at rest nodes w pool count world =
         receive_as E p h few small x j hx world
     exec_as (a_return {e} fits) at rest nodes w pool count world =
         value_as E p _ _ (evaluated fits at rest nodes world)

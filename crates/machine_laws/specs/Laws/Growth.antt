@@ -14,7 +14,7 @@ use Rattle.gil.specs.Values.{Value, const, term, number, boolean, location, Fit,
 use Rattle.gil.specs.Values as Values
 use Rattle.gil.specs.Machine.{Model, Store, State, Next, move, settled, exec, eval, operate, fitted, combine, negate, negated, making, the_location, jump, must, there, give, stop, and_then, ◌>>=◌, ◌>>◌, Result, ok, err, command_at, sort_in, cell_at, put_cell, frames, steer, goto, onward, fork, Memory, looked_up, written, dropped, fresh_location, fresh_input}
 use Rattle.gil.specs.Pool.{pooled, added}
-use Rattle.machine_code.specs.WellFormed.{ExprFits, a_number, a_truth, a_variable, a_not, an_operator, CmdFits, an_assign, a_jump, a_call, a_lookup, a_mutate, a_dispose, a_uSym, an_iSym, a_return, a_fail, a_vanish}
+use Rattle.machine_code.specs.WellFormed.{ExprFits, a_number, a_truth, a_variable, a_not, an_operator, CmdFits, an_assign, a_jump, a_call, a_lookup, a_mutate, a_dispose, a_u_sym, an_i_sym, a_return, a_fail, a_vanish}
 
 -- how many terms an expression at most so deep can make
 most : ℕ → ℕ
@@ -196,9 +196,9 @@ module _ (M : Model) (grows : (w : M.World) (n : Node M.Term) → M.made (M.make
       (λ a w n few.
       location-within a _ w (n + 256) (omega arith)
       (λ l. answer-within (dropped M l s.memory) _ w (n + 256) (dropped-within l s.memory w (n + 256) (omega arith))))
-  exec-within p s (a_uSym {j = j} hx hj) w n few =
+  exec-within p s (a_u_sym {j = j} hx hj) w n few =
       answer-within (fresh_location M j s.memory) _ w (n + 511) (fresh_location-within j s.memory w (n + 511) (omega arith))
-  exec-within p s (an_iSym {j = j} hx hj) w n few =
+  exec-within p s (an_i_sym {j = j} hx hj) w n few =
       answer-within (fresh_input M j s.memory) _ w (n + 511) (omega (arith, fresh_input-within j s.memory w n few))
   exec-within p s (a_return h) w n few = operand-within h s.variables w n _ few (λ a w n few. omega arith)
   exec-within p s (a_fail h) w n few = operand-within h s.variables w n _ few (λ a w n few. omega arith)

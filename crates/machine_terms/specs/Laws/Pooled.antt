@@ -11,7 +11,7 @@ use Rattle.gil.specs.Numbers.{most_terms, term_length, pool_length}
 use Rattle.gil.specs.Tree.{Op, plus, minus, equal, less, and, or}
 use Rattle.gil.specs.Names.{gather}
 use Rattle.gil.specs.Values.{Value, term, Node, input, neg, bin, op_gives_number, gives_number}
-use Rattle.gil.specs.Pool.{Ref, numberTerm, booleanTerm, ref_sort, place_in, Pool, ref_to, added, pooled}
+use Rattle.gil.specs.Pool.{Ref, number_term, boolean_term, ref_sort, place_in, Pool, ref_to, added, pooled}
 use Rattle.gil.specs.Layout.{word_bytes, room, bit, constant_words, value_words, ref_tag, op_code, node_words, node_bytes}
 use Rattle.gil.proofs.Theory.Gathered.{gather_append}
 use Rattle.lent_words.specs.Laws.Row.{node-long, nodes-long}
@@ -23,8 +23,8 @@ use Rattle.machine_terms.specs.Mirror.{node_of, pool_with, input_in, term_in}
 use Rattle.machine_terms.specs.Laws.Engine.{Engine, ValueAs, const_as, term_as, TermTag, tags_number, tags_boolean, fresh_in}
 
 pub data RefAs : Ref → ℕ → Type 0 where
-  a_number_term : {k : ℕ} → RefAs (numberTerm k) (17179869184 + k % 4294967296)
-  a_boolean_term : {k : ℕ} → RefAs (booleanTerm k) (21474836480 + k % 4294967296)
+  a_number_term : {k : ℕ} → RefAs (number_term k) (17179869184 + k % 4294967296)
+  a_boolean_term : {k : ℕ} → RefAs (boolean_term k) (21474836480 + k % 4294967296)
 
 pub record PoolAs (w : Pool) (pool : List ℕ) (count : ℕ) : Type 0 where
   pub counted : count ≡ length w % 4294967296
@@ -194,11 +194,11 @@ made_as {w} {pool} {count} n b e h =
         ∙ pool-grows w n (nat_lt (length w) most_terms) refl
 
 pub number-made : {w : Pool} {pool : List ℕ} {count : ℕ} → PoolAs w pool count
-    → ValueAs RefAs (term (numberTerm (length w))) (17179869184 + count)
+    → ValueAs RefAs (term (number_term (length w))) (17179869184 + count)
 number-made {w} h = rw h.counted (term_as a_number_term)
 
 pub boolean-made : {w : Pool} {pool : List ℕ} {count : ℕ} → PoolAs w pool count
-    → ValueAs RefAs (term (booleanTerm (length w))) (21474836480 + count)
+    → ValueAs RefAs (term (boolean_term (length w))) (21474836480 + count)
 boolean-made {w} h = rw h.counted (term_as a_boolean_term)
 
 pub op_made : (o : Op) {w : Pool} {pool : List ℕ} {count : ℕ} → PoolAs w pool count

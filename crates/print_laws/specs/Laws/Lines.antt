@@ -15,7 +15,7 @@ use Rattle.gil.specs.Values.{Value, term}
 use Rattle.gil.specs.Machine.{procedure_at, returned, failed, vanished, error}
 use Rattle.gil.specs.Rows.{Condition, steps, branches, Outcome, ended, cut, Row}
 use Rattle.gil.specs.Explore.{explored}
-use Rattle.gil.specs.Pool.{Ref, booleanTerm, place_in, Pool}
+use Rattle.gil.specs.Pool.{Ref, boolean_term, place_in, Pool}
 use Rattle.gil.specs.Layout.{room, parts_words, bit, ref_tag, value_words, condition_words, end_words, outcome_words, reason_code, head_numbers, head_words, row_parts, row_words, row_bytes, pool_bytes, table_head, table_bytes}
 use Rattle.gil.specs.Printed.{decimal, pool_texts, value_text, value_field, end_fields, outcome_fields, unless_true, condition_text, conditions_after, conditions_field, line_end, row_line, row_lines, heading, explored_text}
 use Rattle.machine_code.specs.WellFormed.{Each}
@@ -118,7 +118,7 @@ module _ (text names : List ℕ) (p : Program) (w : Pool) (rows : List (Row Ref)
   -- conditions
   term-field : (r : Ref) → field_form pool ss boolean_term_tag (place_in r) ≡ value_field ts (term r)
   unfolding value_field value_text
-  term-field r = unfold tag_of word_of value_words ref_tag place_in in field (term (booleanTerm (place_in r)))
+  term-field r = unfold tag_of word_of value_words ref_tag place_in in field (term (boolean_term (place_in r)))
 
   unless : (b : Bool) → unless_form (bit b) ≡ unless_true b
   unfolding unless_form bit unless_true

@@ -18,7 +18,7 @@ use Rattle.gil.specs.Text.{bytes}
 use Rattle.gil.specs.Numbers.{most_terms, term_length, number_term_tag, not_kind}
 use Rattle.gil.specs.Tree.{Op, plus, minus, equal, less, and, or}
 use Rattle.gil.specs.Values.{Constant, number, boolean, location, Value, const, term, Node, input, neg, bin}
-use Rattle.gil.specs.Pool.{Ref, numberTerm, booleanTerm, place_in, Pool}
+use Rattle.gil.specs.Pool.{Ref, number_term, boolean_term, place_in, Pool}
 use Rattle.gil.specs.Layout.{bit, constant_words, value_words, ref_tag, op_code, node_words, pool_bytes}
 use Rattle.gil.specs.Printed.{truth_text, constant_text, op_text, at_most200, not_text, op_texts, value_text, node_text, texts_from, pool_texts, or_large, value_field}
 use Rattle.machine_code.specs.WellFormed.{Each}
@@ -53,8 +53,8 @@ constant_tag (location l) = omega arith
 
 term_tag : (r : Ref) → number_term_tag ≤ tag_of (term r)
 unfolding tag_of value_words ref_tag
-term_tag (numberTerm k) = omega arith
-term_tag (booleanTerm k) = omega arith
+term_tag (number_term k) = omega arith
+term_tag (boolean_term k) = omega arith
 
 constant_length : (c : Constant) → length (constant_text c) ≤ 11
 unfolding constant_text truth_text bytes
@@ -106,8 +106,8 @@ Shorts ts = (j : ℕ) → Short (get_or ts j none)
 value-size : (ss : List ℕ) (ts : List (Option (List ℕ))) → Sizes ss ts → (v : Value Ref) → value_size ss (tag_of v) (word_of v) ≡ size_of (value_text ts v)
 unfolding value_size value_text size_of Sizes tag_of size_at place_in value_words ref_tag word_of
 value-size ss ts f (const c) = simp (lt-ltb (tag_of (const c)) number_term_tag (constant_tag c), value_size) (ap length (constant_form_lem c))
-value-size ss ts f (term (numberTerm k)) = f k
-value-size ss ts f (term (booleanTerm k)) = f k
+value-size ss ts f (term (number_term k)) = f k
+value-size ss ts f (term (boolean_term k)) = f k
 
 pub value-short : (ts : List (Option (List ℕ))) → Shorts ts → (v : Value Ref) → Short (value_text ts v)
 unfolding value_text Shorts

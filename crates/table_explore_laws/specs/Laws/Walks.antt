@@ -92,7 +92,7 @@ pub record AtFork (p : Program) (budget : ℕ) (w v : pooled.World) (s a b : Sta
 module _ (p : Program) (ok : WellFormed p) (budget most : ℕ) (small : budget ≤ most_steps) (few : most ≤ most_branches) where
   -- from where a path begins to where it stops, whatever is done at a fork
   module _ {w : pooled.World} (cs : List (Condition pooled.Term)) (rows : List (Row pooled.Term)) {many b : ℕ} {conditions : List ℕ} (table : List ℕ)
-      (t : Tabled rows table) (same : many ≡ length rows) (c : ConditionsAs b cs conditions) (branchesFit : b ≤ most_branches)
+      (t : Tabled rows table) (same : many ≡ length rows) (c : ConditionsAs b cs conditions) (branches_fit : b ≤ most_branches)
       (F : Stopped → ℕ → Control → Control → Reached)
       (fork-as : (v : pooled.World) (s a b : State pooled.Term) (t : pooled.Term) (y j : ℕ) (g : Stopped) (ca cb : Control) → AtFork p budget w v s a b t y j g ca cb
       → ReachedAs w
@@ -124,7 +124,7 @@ module _ (p : Program) (ok : WellFormed p) (budget most : ℕ) (small : budget �
         let f : Stopped = record { cut = false; next = r; control = x; steps = m; store = store; cells = ds; pool = pool; count = count } in
         let q : Path pooled.Term = record { state = s; steps = m; conditions = cs } in
         rw (turn_end (F f) (row_in (program_words p) b conditions many table f) h)
-        (finish_as p ok grown room rows table t same q c branchesFit pool count false r m k cells world
+        (finish_as p ok grown room rows table t same q c branches_fit pool count false r m k cells world
         (end-outcome pooled_engine m h) (end-steps pooled_engine m (omega arith) h))
     came-by {v} {s} {x} {store} {ds = ds} pool count m j (came_fork {t = u} {x = y} {a = a} {b = a'} {ca = ca} {cb = cb} h ha hb) (few_fork fa fb) reads k cells grown room world low g left =
         let f : Stopped =
@@ -189,7 +189,7 @@ module _ (p : Program) (ok : WellFormed p) (budget most : ℕ) (small : budget �
     stops_as {v = v} {s = s} {x = x} (used_up {n = m} e) i h left =
         let q : Path pooled.Term = record { state = s; steps = m; conditions = cs } in
         rw e
-        (finish_as p ok i.grown i.terms rows table t same q c branchesFit x.pool x.count true Vanished m h.state i.cells h.world
+        (finish_as p ok i.grown i.terms rows table t same q c branches_fit x.pool x.count true Vanished m h.state i.cells h.world
         (a_cut {why = steps}) refl)
     stops_as {v = v} {s = s} {x = x} (by_command {j = j} {n = m} g e) i h left =
         let k = one_as pooled_engine p ok h in
@@ -266,7 +266,7 @@ module _ (p : Program) (ok : WellFormed p) (budget most : ℕ) (small : budget �
       rw (eq-eqb r.refusal 0 e) (reached-before g (k u rows g room pool t n))
 
   module _ {k : ℕ} (rest : Walks k) {w v : pooled.World} {s a a' : State pooled.Term} {t : pooled.Term} {y j : ℕ} {g : Stopped} {ca cb : Control}
-      (cs : List (Condition pooled.Term)) {b : ℕ} {conditions : List ℕ} (c : ConditionsAs b cs conditions) (branchesLeft : b + suc k ≡ most)
+      (cs : List (Condition pooled.Term)) {b : ℕ} {conditions : List ℕ} (c : ConditionsAs b cs conditions) (branches_left : b + suc k ≡ most)
       (h : AtFork p budget w v s a a' t y j g ca cb) where
     -- one branch, in a world that may have grown
     branch_as : (truth : Bool) (s' : State pooled.Term) (c' : Control) (u : pooled.World) (pool : List ℕ) (count many : ℕ) (table : List ℕ) (rows : List (Row pooled.Term))

@@ -9,7 +9,7 @@ use Rattle.gil.specs.Numbers.{most_terms, term_length, pool_length, inputs_lengt
 use Rattle.gil.specs.Tree.{Op, plus, minus, equal, less, and, or}
 use Rattle.gil.specs.Names.{gather}
 use Rattle.gil.specs.Values.{Constant, number, boolean, location, Sort, numbers, booleans, sort_of, truth_in, same_truth, work, work_not, Value, const, term, Node, input, neg, bin, op_gives_number, gives_number}
-use Rattle.gil.specs.Pool.{Ref, numberTerm, booleanTerm, ref_sort, place_in, ref_to, Pool, value_of, node_value, values_from, pool_values}
+use Rattle.gil.specs.Pool.{Ref, number_term, boolean_term, ref_sort, place_in, ref_to, Pool, value_of, node_value, values_from, pool_values}
 use Rattle.gil.specs.Layout.{word_bytes, room, bit, constant_words, value_words, ref_tag, op_code, node_words, node_bytes, pool_bytes, input_words}
 use Rattle.machine_code.specs.Code.{op_word}
 use Rattle.machine_values.specs.Mirror.{truth_word, work_word}
@@ -32,8 +32,8 @@ bit-small false = omega arith
 
 tag_small : (r : Ref) → ref_tag r < 4294967296
 unfolding ref_tag
-tag_small (numberTerm k) = omega arith
-tag_small (booleanTerm k) = omega arith
+tag_small (number_term k) = omega arith
+tag_small (boolean_term k) = omega arith
 
 -- the two words of a value
 pub value-words : {w : Pool} {v : Value Ref} → length w ≤ most_terms → ValueFits w v → Words (value_words ref_tag place_in v)
@@ -121,8 +121,8 @@ value-at vs k h = simp (lt-ltb k most_terms h)
 
 operand-term : (vs : List ℕ) (r : Ref) → operand_word vs (ref_tag r) (place_in r) ≡ value_word vs (place_in r)
 unfolding operand_word ref_tag
-operand-term vs (numberTerm k) = refl
-operand-term vs (booleanTerm k) = refl
+operand-term vs (number_term k) = refl
+operand-term vs (boolean_term k) = refl
 
 operand_as :
     {before : Pool} {cs : List Constant} {vs : List ℕ} {v : Value Ref} → ValuesAs before cs vs → ValueFits before v

@@ -2,12 +2,12 @@
 use Rattle.std.specs.Prelude.{ℕ, suc, ◌≡◌, true, false, List, length, eqb}
 use Rattle.std.proofs.Math.Path.{refl, ap}
 use Rattle.std.proofs.Common.{sym, ◌∙◌, subst, arith, ne_eqb}
-use Rattle.gil.specs.Text.{Key, kIfgoto, kReturn, kFail, kVanish, kTrue, kFalse, kNot, kAnd, kOr, kLookup, kMutate, kDispose, Token, Word, lexeme}
+use Rattle.gil.specs.Text.{Key, k_ifgoto, k_return, k_fail, k_vanish, k_true, k_false, k_not, k_and, k_or, k_lookup, k_mutate, k_dispose, Token, Word, lexeme}
 use Rattle.gil.specs.Tree.{Expr, Cmd, ifgoto, return, fail, vanish, Name}
 use Rattle.gil.specs.Reading.{Read, Reader, after, ◌>>=◌, ◌>>◌, done, nothing, token, ahead, the_mark, the_becomes, the_number, as_word, expr_deep, expr, value_from, setting_of, jump_of, ending_of, command_key, command_word, command}
 use Rattle.gil.specs.Numbers.{most_depth}
 use Rattle.text_words.specs.Mirror.Kinds.{name_token, ended_token, ifgoto_token, return_token, fail_token, vanish_token}
-use Rattle.text_words.specs.Mirror.Words.{key_kind, Stands, a_name, a_number, a_uSite, an_iSite, a_fault, a_key}
+use Rattle.text_words.specs.Mirror.Words.{key_kind, Stands, a_name, a_number, a_u_site, an_i_site, a_fault, a_key}
 use Rattle.text_tokens.specs.Mirror.Seen.{name_at, Seen, a_word, a_property, becoming, a_mark, the_end, Found}
 use Rattle.text_forms.specs.Mirror.Goes.{Goes, anything}
 use Rattle.text_forms.specs.Laws.Goes.{stuck, weaken, onto, first, next, ended}
@@ -45,25 +45,25 @@ command_by s k v =
 
 command-key : (s : List ℕ) (v : ℕ) (k : Key) → command_key k ≡ command_by s (key_kind k) v
 unfolding command_key command_by key_kind
-command-key s v kIfgoto = refl
-command-key s v kReturn = refl
-command-key s v kFail = refl
-command-key s v kVanish = refl
-command-key s v kTrue = refl
-command-key s v kFalse = refl
-command-key s v kNot = refl
-command-key s v kAnd = refl
-command-key s v kOr = refl
-command-key s v kLookup = refl
-command-key s v kMutate = refl
-command-key s v kDispose = refl
+command-key s v k_ifgoto = refl
+command-key s v k_return = refl
+command-key s v k_fail = refl
+command-key s v k_vanish = refl
+command-key s v k_true = refl
+command-key s v k_false = refl
+command-key s v k_not = refl
+command-key s v k_and = refl
+command-key s v k_or = refl
+command-key s v k_lookup = refl
+command-key s v k_mutate = refl
+command-key s v k_dispose = refl
 
 command-word : (s : List ℕ) {w : List ℕ} {place : ℕ} {t : Word} {k v : ℕ} → Placed s w place → Stands w place t k v → command_word t ≡ command_by s k v
 unfolding command_word command_by
 command-word s p (a_name h) = ap setting_of (sym (p h))
 command-word s p a_number = refl
-command-word s p a_uSite = refl
-command-word s p an_iSite = refl
+command-word s p a_u_site = refl
+command-word s p an_i_site = refl
 command-word s p a_fault = refl
 command-word s {v = v} p (a_key {k = k}) = command-key s v k
 

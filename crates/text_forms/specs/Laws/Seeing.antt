@@ -6,13 +6,13 @@ use Rattle.std.proofs.Common.{sym, ◌∙◌, arith}
 use Rattle.std.proofs.Math.Decide.{dec_le}
 use borrow.Author.Tests.{eq-eqb, ne_eqb}
 use Rattle.std.proofs.Math.ListN.{length}
-use Rattle.gil.specs.Text.{Key, kIfgoto, kReturn, kFail, kVanish, kTrue, kFalse, kNot, kAnd, kOr, kLookup, kMutate, kDispose, Token, Word, lexeme}
+use Rattle.gil.specs.Text.{Key, k_ifgoto, k_return, k_fail, k_vanish, k_true, k_false, k_not, k_and, k_or, k_lookup, k_mutate, k_dispose, Token, Word, lexeme}
 use Rattle.gil.specs.Tree.{Op, plus, minus, equal, less, and, or, Name}
 use Rattle.gil.specs.Reading.{Read, Reader, after, ◌>>=◌, done, nothing, token, is_mark, is_ended, is_becomes, so, the_mark, the_becomes, name_of, as_word, the_name, number_of, the_number, property_of, the_property, op_mark, op_key, op_word, op_of, the_op}
 use Rattle.machine_code.specs.Code as Code
 use Rattle.gil.specs.Numbers.{most_characters}
 use Rattle.text_words.specs.Mirror.Kinds.{name_token, number_token, property_token, becomes_token, ended_token, ifgoto_token, and_token, or_token, dispose_token}
-use Rattle.text_words.specs.Mirror.Words.{key_kind, Stands, a_name, a_number, a_uSite, an_iSite, a_fault, a_key}
+use Rattle.text_words.specs.Mirror.Words.{key_kind, Stands, a_name, a_number, a_u_site, an_i_site, a_fault, a_key}
 use Rattle.text_tokens.specs.Mirror.Seen.{name_at, Seen, a_word, a_property, becoming, a_mark, the_end, Found}
 use Rattle.text_tokens.specs.Mirror.Marks.{Marked}
 use Rattle.text_forms.specs.Mirror.Goes.{Goes, fails, goes, anything}
@@ -21,24 +21,24 @@ use Rattle.text_forms.specs.Laws.Goes.{weaken}
 -- the kinds of words and of the other tokens do not meet
 pub keys-high : (k : Key) → (ifgoto_token ≤ key_kind k) × (key_kind k ≤ dispose_token)
 unfolding key_kind
-keys-high kIfgoto = omega arith
-keys-high kReturn = omega arith
-keys-high kFail = omega arith
-keys-high kVanish = omega arith
-keys-high kTrue = omega arith
-keys-high kFalse = omega arith
-keys-high kNot = omega arith
-keys-high kAnd = omega arith
-keys-high kOr = omega arith
-keys-high kLookup = omega arith
-keys-high kMutate = omega arith
-keys-high kDispose = omega arith
+keys-high k_ifgoto = omega arith
+keys-high k_return = omega arith
+keys-high k_fail = omega arith
+keys-high k_vanish = omega arith
+keys-high k_true = omega arith
+keys-high k_false = omega arith
+keys-high k_not = omega arith
+keys-high k_and = omega arith
+keys-high k_or = omega arith
+keys-high k_lookup = omega arith
+keys-high k_mutate = omega arith
+keys-high k_dispose = omega arith
 
 pub words-high : {w : List ℕ} {place : ℕ} {t : Word} {k v : ℕ} → Stands w place t k v → (name_token ≤ k) × (k ≡ property_token → ⊥) × (k ≡ becomes_token → ⊥) × (k ≡ ended_token → ⊥)
 words-high (a_name h) = omega arith
 words-high a_number = omega arith
-words-high a_uSite = omega arith
-words-high an_iSite = omega arith
+words-high a_u_site = omega arith
+words-high an_i_site = omega arith
 words-high a_fault = omega arith
 words-high (a_key {k = k}) = omega (arith, keys-high k)
 
@@ -98,8 +98,8 @@ name-word : (s : List ℕ) {w : List ℕ} {place : ℕ} {t : Word} {k v : ℕ} �
 unfolding name_of name_by key_kind
 name-word s p (a_name h) = ap done (sym (p h))
 name-word s p a_number = refl
-name-word s p a_uSite = refl
-name-word s p an_iSite = refl
+name-word s p a_u_site = refl
+name-word s p an_i_site = refl
 name-word s p a_fault = refl
 name-word s p (a_key {k = k}) = rw (ne_eqb (key_kind k) name_token (λ e. omega (arith, keys-high k)), name_by)
 
@@ -115,8 +115,8 @@ number_word : {w : List ℕ} {place : ℕ} {t : Word} {k v : ℕ} → Stands w p
 unfolding number_of number_by
 number_word (a_name h) = refl
 number_word a_number = refl
-number_word a_uSite = refl
-number_word an_iSite = refl
+number_word a_u_site = refl
+number_word an_i_site = refl
 number_word a_fault = refl
 number_word (a_key {k = k}) = rw (ne_eqb (key_kind k) number_token (λ e. omega (arith, keys-high k)), number_by)
 
@@ -138,25 +138,25 @@ property-by the_end = refl
 
 op_key_lem : (k : Key) → op_key k ≡ op_by (key_kind k)
 unfolding op_key op_by op_by_key key_kind
-op_key_lem kIfgoto = refl
-op_key_lem kReturn = refl
-op_key_lem kFail = refl
-op_key_lem kVanish = refl
-op_key_lem kTrue = refl
-op_key_lem kFalse = refl
-op_key_lem kNot = refl
-op_key_lem kAnd = refl
-op_key_lem kOr = refl
-op_key_lem kLookup = refl
-op_key_lem kMutate = refl
-op_key_lem kDispose = refl
+op_key_lem k_ifgoto = refl
+op_key_lem k_return = refl
+op_key_lem k_fail = refl
+op_key_lem k_vanish = refl
+op_key_lem k_true = refl
+op_key_lem k_false = refl
+op_key_lem k_not = refl
+op_key_lem k_and = refl
+op_key_lem k_or = refl
+op_key_lem k_lookup = refl
+op_key_lem k_mutate = refl
+op_key_lem k_dispose = refl
 
 op_word_lem : {w : List ℕ} {place : ℕ} {t : Word} {k v : ℕ} → Stands w place t k v → op_word t ≡ op_by k
 unfolding op_word op_by op_by_key
 op_word_lem (a_name h) = refl
 op_word_lem a_number = refl
-op_word_lem a_uSite = refl
-op_word_lem an_iSite = refl
+op_word_lem a_u_site = refl
+op_word_lem an_i_site = refl
 op_word_lem a_fault = refl
 op_word_lem (a_key {k = k}) = op_key_lem k
 

@@ -1,11 +1,11 @@
 -- An expression by the kind of its first token; the forms that are one token. Assumes nothing.
 use Rattle.std.specs.Prelude.{ℕ, suc, ◌<◌, ◌≡◌, refl, Bool, true, false, List, eqb}
 use Rattle.std.proofs.Common.{sym, ap, ◌∙◌, subst, arith, ne_eqb}
-use Rattle.gil.specs.Text.{Key, kIfgoto, kReturn, kFail, kVanish, kTrue, kFalse, kNot, kAnd, kOr, kLookup, kMutate, kDispose, Token, Word, lexeme}
+use Rattle.gil.specs.Text.{Key, k_ifgoto, k_return, k_fail, k_vanish, k_true, k_false, k_not, k_and, k_or, k_lookup, k_mutate, k_dispose, Token, Word, lexeme}
 use Rattle.gil.specs.Tree.{Expr, num, bool, var, Name}
 use Rattle.gil.specs.Reading.{Reader, done, nothing, the_becomes, the_name, the_number, the_property, negation, bracketed, expr_key, expr_word, expr_from}
 use Rattle.text_words.specs.Mirror.Kinds.{name_token, number_token, property_token, becomes_token, true_token, false_token, not_token}
-use Rattle.text_words.specs.Mirror.Words.{key_kind, Stands, a_name, a_number, a_uSite, an_iSite, a_fault, a_key}
+use Rattle.text_words.specs.Mirror.Words.{key_kind, Stands, a_name, a_number, a_u_site, an_i_site, a_fault, a_key}
 use Rattle.text_tokens.specs.Mirror.Seen.{name_at, Seen, a_word, a_property, becoming, a_mark, the_end, Found}
 use Rattle.text_forms.specs.Mirror.Goes.{Goes, anything}
 use Rattle.text_forms.specs.Mirror.Seeing.{OfKind, found, other}
@@ -27,25 +27,25 @@ expr_by s e k v =
 
 expr-key : (e : Reader (Expr Name)) (s : List ℕ) (v : ℕ) (k : Key) → expr_key e k ≡ expr_by s e (key_kind k) v
 unfolding expr_key expr_by expr_by_key key_kind
-expr-key e s v kIfgoto = refl
-expr-key e s v kReturn = refl
-expr-key e s v kFail = refl
-expr-key e s v kVanish = refl
-expr-key e s v kTrue = refl
-expr-key e s v kFalse = refl
-expr-key e s v kNot = refl
-expr-key e s v kAnd = refl
-expr-key e s v kOr = refl
-expr-key e s v kLookup = refl
-expr-key e s v kMutate = refl
-expr-key e s v kDispose = refl
+expr-key e s v k_ifgoto = refl
+expr-key e s v k_return = refl
+expr-key e s v k_fail = refl
+expr-key e s v k_vanish = refl
+expr-key e s v k_true = refl
+expr-key e s v k_false = refl
+expr-key e s v k_not = refl
+expr-key e s v k_and = refl
+expr-key e s v k_or = refl
+expr-key e s v k_lookup = refl
+expr-key e s v k_mutate = refl
+expr-key e s v k_dispose = refl
 
 expr-word : (s : List ℕ) {w : List ℕ} {place : ℕ} {t : Word} {k v : ℕ} (e : Reader (Expr Name)) → Placed s w place → Stands w place t k v → expr_word e t ≡ expr_by s e k v
 unfolding expr_word expr_by expr_by_key
 expr-word s e p (a_name h) = ap (λ (w : Name). done (var w)) (sym (p h))
 expr-word s e p a_number = refl
-expr-word s e p a_uSite = refl
-expr-word s e p an_iSite = refl
+expr-word s e p a_u_site = refl
+expr-word s e p an_i_site = refl
 expr-word s e p a_fault = refl
 expr-word s {v = v} e p (a_key {k = k}) = expr-key e s v k
 

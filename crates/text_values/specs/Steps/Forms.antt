@@ -3,12 +3,12 @@ use Rattle.std.specs.Prelude.{ℕ, suc, ◌<◌, ◌≡◌, Bool, List, eqb}
 use Rattle.std.proofs.Math.Path.{refl, sym, ap, subst}
 use Rattle.std.proofs.Common.{◌∙◌, arith, ne_eqb}
 use Rattle.std.proofs.Math.Bool.{true, false}
-use Rattle.gil.specs.Text.{Key, kIfgoto, kReturn, kFail, kVanish, kTrue, kFalse, kNot, kAnd, kOr, kLookup, kMutate, kDispose, Token, Word, lexeme}
+use Rattle.gil.specs.Text.{Key, k_ifgoto, k_return, k_fail, k_vanish, k_true, k_false, k_not, k_and, k_or, k_lookup, k_mutate, k_dispose, Token, Word, lexeme}
 use Rattle.gil.specs.Tree.{Expr, var, Cmd, assign, call, lookup, mutate, dispose, u_sym, i_sym, Name}
 use Rattle.gil.specs.Reading.{Read, faulty, Reader, after, ◌>>=◌, ◌>>◌, done, nothing, token, ahead, is_mark, the_mark, the_name, expr_key, expr_word, expr_from, expr_deep, expr, assignment, call_of, call_or_var, named, lookup_of, mutate_of, dispose_of, value_key, value_word, value_from}
 use Rattle.gil.specs.Numbers.{most_depth}
 use Rattle.text_words.specs.Mirror.Kinds.{name_token, u_site_token, i_site_token, ended_token, lookup_token, mutate_token, dispose_token}
-use Rattle.text_words.specs.Mirror.Words.{key_kind, Stands, a_name, a_number, a_uSite, an_iSite, a_fault, a_key}
+use Rattle.text_words.specs.Mirror.Words.{key_kind, Stands, a_name, a_number, a_u_site, an_i_site, a_fault, a_key}
 use Rattle.text_tokens.specs.Mirror.Seen.{name_at, Seen, a_word, a_property, becoming, a_mark, the_end, Found}
 use Rattle.text_forms.specs.Mirror.Goes.{Goes, anything}
 use Rattle.text_forms.specs.Laws.Goes.{stuck, weaken, first, next, ended}
@@ -111,25 +111,25 @@ module _ (s : List ℕ) (at : ℕ) (v : Name) where
 
   value-key : (u : ℕ) (k : Key) → (expr_key (expr_deep 7) k ≡ nothing → faulty ≡ assignment v s at) → value_key v k s at ≡ value_by v (key_kind k) u s at
   unfolding value_key value_by value_by_site key_kind expr_key nothing
-  value-key u kIfgoto h = h refl
-  value-key u kReturn h = h refl
-  value-key u kFail h = h refl
-  value-key u kVanish h = h refl
-  value-key u kTrue h = refl
-  value-key u kFalse h = refl
-  value-key u kNot h = refl
-  value-key u kAnd h = h refl
-  value-key u kOr h = h refl
-  value-key u kLookup h = refl
-  value-key u kMutate h = refl
-  value-key u kDispose h = refl
+  value-key u k_ifgoto h = h refl
+  value-key u k_return h = h refl
+  value-key u k_fail h = h refl
+  value-key u k_vanish h = h refl
+  value-key u k_true h = refl
+  value-key u k_false h = refl
+  value-key u k_not h = refl
+  value-key u k_and h = h refl
+  value-key u k_or h = h refl
+  value-key u k_lookup h = refl
+  value-key u k_mutate h = refl
+  value-key u k_dispose h = refl
 
   value-word : {w : List ℕ} {place : ℕ} {t : Word} {k u : ℕ} → Stands w place t k u → (expr_word (expr_deep 7) t ≡ nothing → faulty ≡ assignment v s at) → value_word v t s at ≡ value_by v k u s at
   unfolding value_word value_by value_by_site expr_word nothing
   value-word (a_name l) h = refl
   value-word a_number h = refl
-  value-word a_uSite h = refl
-  value-word an_iSite h = refl
+  value-word a_u_site h = refl
+  value-word an_i_site h = refl
   value-word a_fault h = h refl
   value-word {u = u} (a_key {k = k}) h = value-key u k h
 

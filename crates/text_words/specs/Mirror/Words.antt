@@ -1,13 +1,13 @@
 -- What a run of characters is to the code: a kind and a number; the code's table of reserved words, and the one that a run may be. Assumes nothing.
 use Rattle.std.specs.Prelude.{ℕ, zero, suc, ◌≤◌, true, false, ◌&&◌, List, [], ◌∷◌, length, get_or, leb, ltb, eqb}
 use Rattle.std.proofs.Math.Option.{Option, none, some}
-use Rattle.gil.specs.Text.{Key, kIfgoto, kReturn, kFail, kVanish, kTrue, kFalse, kNot, kAnd, kOr, kLookup, kMutate, kDispose, Word, name, number, key, u_site, i_site, fault, reserved_words, all_digits, decimal_from, bytes}
+use Rattle.gil.specs.Text.{Key, k_ifgoto, k_return, k_fail, k_vanish, k_true, k_false, k_not, k_and, k_or, k_lookup, k_mutate, k_dispose, Word, name, number, key, u_site, i_site, fault, reserved_words, all_digits, decimal_from, bytes}
 use Rattle.gil.specs.Numbers.{most_characters}
 use Rattle.text_words.specs.Mirror.Kinds.{name_token, number_token, u_site_token, i_site_token, fault_token, keys, ifgoto_token, return_token, fail_token, vanish_token, true_token, false_token, not_token, and_token, or_token, lookup_token, mutate_token, dispose_token, no_number}
 
 -- the reserved words by number
 unfoldable pub reserved : ℕ → List ℕ
-reserved k = (get_or reserved_words k ([], kIfgoto)).0
+reserved k = (get_or reserved_words k ([], k_ifgoto)).0
 
 unfoldable pub key_of : List (List ℕ × Key) → ℕ → Option Key
 key_of [] k = none
@@ -19,18 +19,18 @@ key_at k = key_of reserved_words k
 
 -- the number of a key's kind
 unfoldable pub key_kind : Key → ℕ
-key_kind kIfgoto = ifgoto_token
-key_kind kReturn = return_token
-key_kind kFail = fail_token
-key_kind kVanish = vanish_token
-key_kind kTrue = true_token
-key_kind kFalse = false_token
-key_kind kNot = not_token
-key_kind kAnd = and_token
-key_kind kOr = or_token
-key_kind kLookup = lookup_token
-key_kind kMutate = mutate_token
-key_kind kDispose = dispose_token
+key_kind k_ifgoto = ifgoto_token
+key_kind k_return = return_token
+key_kind k_fail = fail_token
+key_kind k_vanish = vanish_token
+key_kind k_true = true_token
+key_kind k_false = false_token
+key_kind k_not = not_token
+key_kind k_and = and_token
+key_kind k_or = or_token
+key_kind k_lookup = lookup_token
+key_kind k_mutate = mutate_token
+key_kind k_dispose = dispose_token
 
 -- a number that may be missing: 4,294,967,296 is none
 unfoldable pub option : ℕ → Option ℕ
@@ -48,8 +48,8 @@ word_for kind n = elim (eqb kind number_token) [ true ↦ number n | false ↦ e
 pub data Stands (w : List ℕ) (place : ℕ) : Word → ℕ → ℕ → Type 0 where
   a_name : length w ≤ most_characters → Stands w place (name w) name_token place
   a_number : {v : ℕ} → Stands w place (number v) number_token v
-  a_uSite : {v : ℕ} → Stands w place (u_site v) u_site_token v
-  an_iSite : {v : ℕ} → Stands w place (i_site v) i_site_token v
+  a_u_site : {v : ℕ} → Stands w place (u_site v) u_site_token v
+  an_i_site : {v : ℕ} → Stands w place (i_site v) i_site_token v
   a_fault : {v : ℕ} → Stands w place fault fault_token v
   a_key : {k : Key} {v : ℕ} → Stands w place (key k) (key_kind k) v
 

@@ -7,10 +7,10 @@ use native.Mathlib.Omega.{arith}
 use Rattle.std.proofs.lemmas.Bool.{lt-leb, eqb-false}
 use Rattle.std.proofs.Math.ListN.{length, length-take}
 use Rattle.std.proofs.Math.Seq.{drop-cons}
-use Rattle.gil.specs.Text.{kIfgoto, Word, number, u_site, i_site, reserved_words, find, same, digit, all_digits, decimal_from, numeral, numbered, plain_zero, bytes, letter, symbol, u_sym_prefix, i_sym_prefix, identifier, identified, word_of}
+use Rattle.gil.specs.Text.{k_ifgoto, Word, number, u_site, i_site, reserved_words, find, same, digit, all_digits, decimal_from, numeral, numbered, plain_zero, bytes, letter, symbol, u_sym_prefix, i_sym_prefix, identifier, identified, word_of}
 use Rattle.gil.specs.Numbers.{largest_number, largest_site, most_characters}
 use Rattle.text_words.specs.Mirror.Kinds.{name_token, number_token, u_site_token, i_site_token, fault_token, keys, first_key, no_number}
-use Rattle.text_words.specs.Mirror.Words.{reserved, key_of, key_at, key_kind, option, worth, word_for, Stands, a_name, a_number, a_uSite, an_iSite, a_fault, a_key, words_table, lengths_table, started_by, candidate_of}
+use Rattle.text_words.specs.Mirror.Words.{reserved, key_of, key_at, key_kind, option, worth, word_for, Stands, a_name, a_number, a_u_site, an_i_site, a_fault, a_key, words_table, lengths_table, started_by, candidate_of}
 use Rattle.gil.proofs.Theory.Tests.{no_false, both}
 use Rattle.text_words.specs.Laws.Words.{same-is}
 
@@ -51,9 +51,9 @@ module _ (w : List ℕ) (k : ℕ) (h : k < keys) where
   unfolding reserved_words
   long = h
 
-  find-step : find w (drop k reserved_words) ≡ elim (same w (reserved k)) [ true ↦ some (get_or reserved_words k ([], kIfgoto)).1 | false ↦ find w (drop (suc k) reserved_words) ]
+  find-step : find w (drop k reserved_words) ≡ elim (same w (reserved k)) [ true ↦ some (get_or reserved_words k ([], k_ifgoto)).1 | false ↦ find w (drop (suc k) reserved_words) ]
   unfolding find reserved
-  find-step = ap (find w) (drop-cons reserved_words k ([], kIfgoto) long)
+  find-step = ap (find w) (drop-cons reserved_words k ([], k_ifgoto) long)
 
   pub find-more : same w (reserved k) ≡ false → find w (drop k reserved_words) ≡ find w (drop (k + 1) reserved_words)
   find-more e = rw (add-one k) (find-step ∙ rw e)
@@ -135,8 +135,8 @@ numbered-some n kind w place h a b = rw (lt-ltb n no_number h, option) (at (eqb 
   where
     at : (t : Bool) → eqb kind number_token ≡ t → (u : Bool) → eqb kind u_site_token ≡ u → Stands w place (elim t [ true ↦ number n | false ↦ elim u [ true ↦ u_site n | false ↦ i_site n ] ]) kind n
     at true e u f = rw (eqb-true kind number_token e) a_number
-    at false e true f = rw (eqb-true kind u_site_token f) a_uSite
-    at false e false f = let g : kind ≡ i_site_token = omega (arith, eqb-false kind number_token e, eqb-false kind u_site_token f) in rw g an_iSite
+    at false e true f = rw (eqb-true kind u_site_token f) a_u_site
+    at false e false f = let g : kind ≡ i_site_token = omega (arith, eqb-false kind number_token e, eqb-false kind u_site_token f) in rw g an_i_site
 
 pub numbered-none : (n kind : ℕ) (w : List ℕ) (place : ℕ) → no_number ≤ n → Stands w place (numbered (option n) (word_for kind)) fault_token 0
 unfolding numbered option

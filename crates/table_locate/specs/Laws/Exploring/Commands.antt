@@ -14,7 +14,7 @@ use Rattle.gil.specs.Tree.{Op, plus, minus, equal, less, and, or, Expr, Cmd, van
 use Rattle.gil.specs.Names.{gather, Procedure, Program}
 use Rattle.gil.specs.Values.{Constant, number, booleans, sort_of, number_in, same_sort, Fit, right, wrong, unlike, fit, work, work_not, Value, const, term, Node}
 use Rattle.gil.specs.Machine.{Caller, Control, Counters, Store, Cell, Memory, Answer, State, End, Next, on, ends, fork, Result, and_then, ◌>>=◌, ◌>>◌, give, stop, must, there, sort_in, making, combine, fitted, operate, negated, negate, eval, frames, goto, onward, entered, back_to, with_input, with_location, counting, procedure_at, command_at, steer, assigned, with_memory, answered, with_cells, frame, top_store, below_top, opened, closed, returns_to, is_at, is_before, cell_at, put_cell, without_cells, the_location, jump, looked_up, written, dropped, fresh_location, fresh_input, exec}
-use Rattle.gil.specs.Pool.{Ref, numberTerm, booleanTerm, ref_sort, Pool, added, pooled}
+use Rattle.gil.specs.Pool.{Ref, number_term, boolean_term, ref_sort, Pool, added, pooled}
 use Rattle.gil.proofs.Theory.Tests.{chosen}
 use Rattle.machine_code.specs.Code.{all_commands}
 use Rattle.machine_code.specs.WellFormed as WellFormed
@@ -95,8 +95,8 @@ unfolding pooled negate negated sort_in sort_of ref_sort same_sort must give sto
 negate-gives {w} t (fits_number h) = wrong_sort_lem t
 negate-gives {w} t fits_truth = gives (same-pool w) t fits_truth
 negate-gives {w} t (fits_location h) = wrong_sort_lem t
-negate-gives {w} t (fits_term {r = numberTerm k} f) = wrong_sort_lem t
-negate-gives {w} t (fits_term {r = booleanTerm k} f) = make-gives t (fits_not (fits_term f) refl)
+negate-gives {w} t (fits_term {r = number_term k} f) = wrong_sort_lem t
+negate-gives {w} t (fits_term {r = boolean_term k} f) = make-gives t (fits_not (fits_term f) refl)
 
 -- Expressions
 each_at : {A : Type 0} {P : A → Type 0} {l : List A} (d : A) (i : ℕ) → Each P l → P d → P (get_or l i d)
@@ -425,8 +425,8 @@ module _ (p : Program) where
   jump-gives {w} {s} n t f after h (fits_truth {b = true}) = gives (same-pool w) t (fits_on (goto-fits f n h))
   jump-gives {w} {s} n t f after h (fits_truth {b = false}) = gives (same-pool w) t (fits_on (goto-fits f (suc s.control.command) after))
   jump-gives {w} n t f after h (fits_location i) = wrong_sort_lem t
-  jump-gives {w} n t f after h (fits_term {r = numberTerm k} g) = wrong_sort_lem t
-  jump-gives {w} {s} n t f after h (fits_term {r = booleanTerm k} g) =
+  jump-gives {w} n t f after h (fits_term {r = number_term k} g) = wrong_sort_lem t
+  jump-gives {w} {s} n t f after h (fits_term {r = boolean_term k} g) =
       gives (same-pool w) t (fits_fork g refl (goto-fits f n h) (goto-fits f (suc s.control.command) after))
 
   answer-gives :
@@ -477,8 +477,8 @@ module _ (p : Program) where
         then-gives (location-gives r y) (λ u' l g' r' z.
         let here : StateFits u' s = state-grows (then_grows g g') f in
         answer-gives x after here (dropped-gives r' here.memory l)))
-    exec-gives {s = s} t f after (WellFormed.a_uSym {x} {j} i k) = answer-gives x after f (fresh_location-gives t f.memory j)
-    exec-gives {s = s} t f after (WellFormed.an_iSym {x} {j} i k) = answer-gives x after f (fresh_input-gives t f.memory j)
+    exec-gives {s = s} t f after (WellFormed.a_u_sym {x} {j} i k) = answer-gives x after f (fresh_location-gives t f.memory j)
+    exec-gives {s = s} t f after (WellFormed.an_i_sym {x} {j} i k) = answer-gives x after f (fresh_input-gives t f.memory j)
     exec-gives {s = s} t f after (WellFormed.a_return i) =
         then-gives (eval-gives t f.variables.variables i) (λ u v g r q.
         gives (same-pool u) r (returns-fits s.control.callers (state-grows g f) (saved-grows g f.saved) q))
