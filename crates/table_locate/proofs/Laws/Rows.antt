@@ -1,4 +1,4 @@
--- For a sound table, what is read from the bytes of table and pool is document 01's row: `locate-law`. Assumes nothing.
+-- For a sound table, what is read from the bytes of table and pool is document 01's row: `locate_law`. Assumes nothing.
 use Prim.Native.Nat.{ℕ, suc, ◌+◌, ◌*◌, ◌-◌, ◌≤◌, ◌<◌}
 use Rattle.std.proofs.Math.Nat.{zero-add}
 use native.Mathlib.Omega.{arith}

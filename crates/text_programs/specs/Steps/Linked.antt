@@ -241,7 +241,7 @@ relink_proc_lem g p f k r h =
     (map-map (relink g) (rename_cmd (λ w. place_of w (proc_vars r)) p f) r.body
     ∙ map_each (each_to (relink_rename g (λ w. place_of w (proc_vars r)) p f k) h))
 
--- Where refusals 5 and 6 are not given: `limited` is `limits-kept` (crates/machine_code/proofs/Accepted.antt) of `over_limits ps ≡ false`; `kq` and `kc`
+-- Where refusals 5 and 6 are not given: `limited` is `limits_kept` (crates/machine_code/proofs/Accepted.antt) of `over_limits ps ≡ false`; `kq` and `kc`
 -- are `kept-procs` and `kept-calls` of specs/Steps/Verdict.antt, so `Tells.names` and `Tells.calls` from empty tables.
 module _ (s calls procs : List ℕ) (ps : List (Proc Name)) (limited : Limited ps) (right : wrong_names ps ≡ false) (kq : Kept s most_procedures procs (with_names [] (proc_names ps))) (kc : Kept s most_procedures calls (with_names [] (gather calls_of ps))) where
   tests : (repeated (proc_names ps) ≡ false) × (any (λ f. not (has f (proc_names ps))) (gather calls_of ps) ≡ false)
