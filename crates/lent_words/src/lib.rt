@@ -11,27 +11,24 @@ ghost use Rattle.lent_words.specs.Mirror.{word_at, put_word, at_most};
 pub fn wide(x: u8) -> u32
     ensures { (result ≡ x) × (result < 256) }
 {
-    x as u32
+    u32::from(x)
 }
 
 // A count that is read, and never more than there is room for
 pub fn at_most(most: u32, n: u32) -> u32
     ensures { (result ≡ at_most most n) × (result ≤ most) }
 {
-    if most < n { most } else { n }
+    n.min(most)
 }
 
 // The word at a place.
 pub fn word_at(b: &[u8], at: usize) -> u32
     ensures { result ≡ word_at b.now at }
 {
-    if b.len() < 4 {
+    if at.saturating_add(4) > b.len() {
         return 0;
     }
-    if b.len() - 4 < at {
-        return 0;
-    }
-    wide(b[at]) + 256 * wide(b[at + 1]) + 65536 * wide(b[at + 2]) + 16777216 * wide(b[at + 3])
+    u32::from_le_bytes([b[at], b[at + 1], b[at + 2], b[at + 3]])
 }
 
 // A word stored where there is room for it.
@@ -39,32 +36,21 @@ pub fn set_word(b: &mut [u8], at: usize, x: u32)
     requires { at + 4 ≤ length b.old }
     ensures { b.new ≡ sets b.old at (word_bytes x) }
 {
-    b[at] = (x % 256) as u8;
-    b[at + 1] = (x / 256 % 256) as u8;
-    b[at + 2] = (x / 65536 % 256) as u8;
-    b[at + 3] = (x / 16777216 % 256) as u8;
+    b[at..at + 4].copy_from_slice(&x.to_le_bytes());
 }
 
 // A word stored at a place.
 pub fn put_word(b: &mut [u8], at: usize, x: u32)
     ensures { b.new ≡ put_word b.old at x }
 {
-    if b.len() < 4 {
-        return;
+    if at.saturating_add(4) <= b.len() {
+        set_word(b, at, x);
     }
-    if b.len() - 4 < at {
-        return;
-    }
-    set_word(b, at, x);
 }
 
 // All of it zero.
 pub fn zero(b: &mut [u8])
     ensures { b.new ≡ replicate (length b.old) 0 }
 {
-    let mut i = 0;
-    while i < b.len() {
-        b[i] = 0;
-        i += 1;
-    }
+    b.fill(0);
 }

@@ -94,5 +94,5 @@ pub fn wide(w: u32) -> usize
 pub fn code_word(code: &[u32; CODE_WORDS], at: usize) -> u32
     ensures { result ≡ code_word code.now at }
 {
-    if at < CODE_WORDS { code[at] } else { 0 }
+    code.get(at).copied().unwrap_or(0)
 }
