@@ -39,10 +39,7 @@ pub fn wrong_budget(steps: u32) -> bool
 pub fn wrong_budgets(steps: u32, branches: u32) -> bool
     ensures { result ≡ wrong_budgets steps branches }
 {
-    if steps < 1 {
-        return true;
-    }
-    if steps > MOST_STEPS {
+    if steps < 1 || steps > MOST_STEPS {
         return true;
     }
     branches > MOST_BRANCHES
@@ -83,10 +80,8 @@ pub fn input_words(inputs: &[u8]) -> [u32; INPUTS]
     ensures { result ≡ input_words inputs.now }
 {
     let mut out = [0u32; INPUTS];
-    let mut i = 0;
-    while i < INPUTS {
-        out[i] = words::word_at(inputs, 4 * i);
-        i += 1;
+    for (i, word) in out.iter_mut().enumerate() {
+        *word = words::word_at(inputs, 4 * i);
     }
     out
 }
