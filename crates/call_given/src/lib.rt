@@ -5,28 +5,19 @@
 ghost use Rattle.std.specs.Prelude.{◌≡◌, ◌||◌, length, replicate, ltb};
 ghost use Rattle.gil.specs.Numbers.{table_length, pool_length, inputs_length};
 ghost use Rattle.gil.specs.Layout.{input_words};
+ghost use Rattle.gil.specs.Refusals.{answer_of};
 ghost use Rattle.gil.specs.Calls.{wrong_budget, wrong_budgets, wrong_inputs};
 ghost use Rattle.machine_code.specs.Code.{code_words};
 ghost use Rattle.call_given.specs.Mirror.{Begun};
 
 use gil::layout::{INPUTS_BYTES, POOL_BYTES, TABLE_BYTES};
 use gil::limits::{MOST_BRANCHES, MOST_INPUTS, MOST_STEPS};
-use gil::numbers::{FOR_BUDGETS, FOR_LISTS};
+use gil::refusals::Refusal;
 use lent_words as words;
 use machine_code::CODE_WORDS;
 use text_programs::verdict;
 
 const INPUTS: usize = MOST_INPUTS as usize;
-
-// Whether one of two tests refuses
-pub fn either(a: bool, b: bool) -> bool
-    ensures { result ≡ (a || b) }
-{
-    if a {
-        return true;
-    }
-    b
-}
 
 // 1: "plain run: steps above 1,024"
 pub fn wrong_budget(steps: u32) -> bool
@@ -49,7 +40,7 @@ pub fn wrong_budgets(steps: u32, branches: u32) -> bool
 pub fn short_tables(table: usize, pool: usize) -> bool
     ensures { result ≡ ltb table table_length || ltb pool pool_length }
 {
-    either(table < TABLE_BYTES, pool < POOL_BYTES)
+    table < TABLE_BYTES || pool < POOL_BYTES
 }
 
 // 2: "the input list is not sixteen long"
@@ -59,16 +50,21 @@ pub fn wrong_inputs(inputs: &[u8]) -> bool
     inputs.len() != INPUTS_BYTES
 }
 
-// The calls' common beginning, given whether the tests of 1 and of 2 refuse: 1 to 8, or 0 and the words of the text's program. `code` is
-// lent zeroed.
-pub fn begin(budgets: bool, lists: bool, text: &[u8], code: &mut [u32; CODE_WORDS]) -> u32
-    ensures { code.old ≡ replicate code_words 0 → Begun budgets lists text.now code.new result }
+// The calls' common beginning, given whether the tests of 1 and of 2 refuse: a refusal of 1 to 8, or the words of the text's program. `code`
+// is lent zeroed.
+pub fn begin(
+    budgets: bool,
+    lists: bool,
+    text: &[u8],
+    code: &mut [u32; CODE_WORDS],
+) -> Result<(), Refusal>
+    ensures { code.old ≡ replicate code_words 0 → Begun budgets lists text.now code.new (answer_of result) }
 {
     if budgets {
-        return FOR_BUDGETS;
+        return Err(Refusal::Budgets);
     }
     if lists {
-        return FOR_LISTS;
+        return Err(Refusal::Lists);
     }
     let mut names = [0u32; 33];
     verdict::read_program(text, code, &mut names)

@@ -1,13 +1,17 @@
-// place: 256 more than the number of the row that the inputs fall in, and table and pool as explore leaves them; or 1 to 10, as explore. Assumes
+// place: the number of the row that the inputs fall in, and table and pool as explore leaves them; or a refusal of 1 to 10, as explore. Assumes
 // nothing.
 #![tactic(auto)]
 
+ghost use Rattle.std.specs.Prelude.{◌<◌, IfOk};
+ghost use Rattle.gil.specs.Numbers.{most_rows};
 ghost use Rattle.gil.specs.Promises.{Promise, place};
+ghost use Rattle.call_place.specs.Answers.{row_answer};
 
 use call_explore::tables;
 use call_given as given;
-use gil::numbers::FIRST_ROW;
+use gil::refusals::Refusal;
 use machine_code::CODE_WORDS;
+use table_explore::Budgets;
 use table_locate as locate;
 
 pub fn place(
@@ -17,20 +21,15 @@ pub fn place(
     branches: u32,
     table: &mut [u8],
     pool: &mut [u8],
-) -> u32
-    ensures { Promise (place text.now inputs.now steps branches table.old pool.old) (record { returns = result; table = table.new; pool = pool.new }) }
+) -> Result<u32, Refusal>
+    ensures { Promise (place text.now inputs.now steps branches table.old pool.old) (record { returns = row_answer result; table = table.new; pool = pool.new }) }
+    ensures row { IfOk result (λ row. row < most_rows) }
 {
     let budgets = given::wrong_budgets(steps, branches);
     let short = given::short_tables(table.len(), pool.len());
-    let lists = given::either(given::wrong_inputs(inputs), short);
+    let lists = given::wrong_inputs(inputs) || short;
     let mut code = [0u32; CODE_WORDS];
-    let refusal = given::begin(budgets, lists, text, &mut code);
-    if refusal != 0 {
-        return refusal;
-    }
-    let full = tables::explore(&code, steps, branches, table, pool);
-    if full != 0 {
-        return full;
-    }
-    FIRST_ROW + locate::locate(table, pool, inputs)
+    given::begin(budgets, lists, text, &mut code)?;
+    tables::explore(&code, Budgets { steps, branches }, table, pool)?;
+    Ok(locate::locate(table, pool, inputs).unwrap())
 }
