@@ -1,6 +1,0 @@
-// From bytes to tokens: where white space and runs end, and the token at a place. Every contract cites the definitions of
-// crates/gil/specs/Text.antt; what a token is to the code stands in specs/Mirror/Seen.antt.
-#![tactic(auto)]
-
-pub mod lexemes;
-pub mod scan;
