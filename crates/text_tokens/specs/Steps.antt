@@ -1,4 +1,1 @@
 -- Laws that the functions' own proofs cite. Assumes nothing.
-pub mod Scan
-pub mod Seen
-pub mod Marks
