@@ -9,9 +9,8 @@ use crate::scan;
 use crate::texts::Text;
 use crate::tokens::{Lexeme, Place, Token};
 use gil::limits::MOST_CHARACTERS;
-use text_words::classes;
-use text_words::words;
 use text_words::words::Word;
+use text_words::{classes, words};
 
 // the place of what stands from `start` to `end`
 fn between(start: usize, end: usize) -> Place
@@ -33,17 +32,11 @@ fn quoted(text: &Text, i: usize) -> Lexeme
     let from = i + 1;
     let end = scan::past(bytes, from, classes::in_run);
     let n = end - from;
-    if end < bytes.len() {
-        if bytes[end] == b'"' {
-            if n > 0 {
-                if n <= MOST_CHARACTERS {
-                    return Lexeme {
-                        token: Token::Property(between(from, end)),
-                        next: end + 1,
-                    };
-                }
-            }
-        }
+    if end < bytes.len() && bytes[end] == b'"' && n > 0 && n <= MOST_CHARACTERS {
+        return Lexeme {
+            token: Token::Property(between(from, end)),
+            next: end + 1,
+        };
     }
     Lexeme {
         token: Token::Mark(b'"'),
@@ -56,8 +49,9 @@ fn coloned(text: &Text, i: usize) -> Lexeme
     requires { (i < length text.now) × (get_or text.now i 0 ≡ 58) }
     ensures { Found text.now i (token_from text.now i (drop i text.now)) result.token result.next }
 {
+    let bytes = text.bytes();
     let from = i + 1;
-    if text.bytes().get(from) == Some(&b'=') {
+    if from < bytes.len() && bytes[from] == b'=' {
         return Lexeme {
             token: Token::Becomes,
             next: from + 1,
