@@ -44,7 +44,7 @@ impl Names {
         Names {
             places: [NOWHERE; MOST_NAMES],
             count: 0,
-            most: most,
+            most,
         }
     }
 

@@ -78,10 +78,7 @@ fn run(text: &Text, i: usize) -> Lexeme
         Some(Word::ISite(n)) => Token::ISite(n),
         None => Token::Fault,
     };
-    Lexeme {
-        token: token,
-        next: end,
-    }
+    Lexeme { token, next: end }
 }
 
 // the token that begins at `i`

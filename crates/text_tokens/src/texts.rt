@@ -31,7 +31,7 @@ impl<'a> Text<'a> {
         if bytes.len() > MOST_BYTES {
             return None;
         }
-        Some(Text { bytes: bytes })
+        Some(Text { bytes })
     }
 
     pub fn bytes(&self) -> &'a [u8]

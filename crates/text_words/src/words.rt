@@ -44,10 +44,8 @@ fn decimal(digits: &[u8], limit: u32) -> Option<u32>
     if digits.is_empty() {
         return None;
     }
-    if digits.len() > 1 {
-        if digits[0] < b'1' {
-            return None;
-        }
+    if digits.len() > 1 && digits[0] < b'1' {
+        return None;
     }
     value(digits, limit)
 }
