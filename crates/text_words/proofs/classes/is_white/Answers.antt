@@ -1,5 +1,5 @@
 -- `classes::is_white` meets its contract. Assumes nothing.
-use borrow.Author.Tests.{ne_eqb}
+use Rattle.std.proofs.Common.{arith, ne_eqb}
 use Rattle.gil.specs.Text.{white}
 use Rattle.text_words.proofs.classes.is_white.Goals as goal
 
@@ -21,4 +21,4 @@ returns-in-9 c = rw c.in-9.is
 
 pub returns-in_default : goal.returns-in_default
 unfolding white
-returns-in_default c = simp (ne_eqb c.args.b 32 c.in_default.in_default-own.rest.0.0.0.1, ne_eqb c.args.b 10 c.in_default.in_default-own.rest.0.0.1, ne_eqb c.args.b 13 c.in_default.in_default-own.rest.0.1, ne_eqb c.args.b 9 c.in_default.in_default-own.rest.1)
+returns-in_default c = simp (ne_eqb c.args.b 32 (λ e. omega arith), ne_eqb c.args.b 10 (λ e. omega arith), ne_eqb c.args.b 13 (λ e. omega arith), ne_eqb c.args.b 9 (λ e. omega arith))
