@@ -6,9 +6,9 @@
 ghost use Rattle.gil.specs.Text.{same};
 ghost use Rattle.text_tokens.specs.Mirror.Seen.{name_at};
 ghost use Rattle.text_names.specs.declared.TheConstants.{MOST_NAMES};
-ghost use Rattle.std.specs.Prelude.{◌≡◌, ◌+◌, ◌≤◌, ◌<◌, min, length, IfSome, ltb, List, [], ℕ};
+ghost use Rattle.std.specs.Prelude.{◌≡◌, ◌^◌, ◌≤◌, ◌<◌, min, length, IfSome, ltb, List, [], ℕ};
 
-use text_tokens::texts::Text;
+use text_tokens::texts::{Text, name};
 use text_tokens::tokens::{NOWHERE, Place};
 
 // what a table takes at most
@@ -21,14 +21,14 @@ pub struct Names {
     pub count: usize,
     pub most: usize,
     ghost fits: { most ≤ MOST_NAMES },
-    ghost few: { count ≤ most + 1 },
+    ghost few: { count < 2 ^ 32 },
 }
 
 // the word is the name at a place
-fn is_named(text: &Text, word: &[u8], place: Place) -> bool
-    ensures { result ≡ same word.now (name_at text.now place) }
+fn is_named(bytes: &[u8], word: &[u8], place: Place) -> bool
+    ensures { result ≡ same word.now (name_at bytes.now place) }
 {
-    word == text.name(place)
+    word == name(bytes, place)
 }
 
 impl Names {
@@ -59,8 +59,7 @@ impl Names {
     pub fn find(&self, text: &Text, word: &[u8]) -> Option<usize>
         ensures { FoundIn word.now (known text.now self.now) result }
     {
-        let known = &self.places[..self.count.min(self.most)];
-        known.iter().position(|place| is_named(text, word, *place))
+        self.find_in(text.bytes(), word)
     }
 
     // the number of the name at a place, which is taken in where it is new; none where there is no room for it
@@ -69,7 +68,23 @@ impl Names {
         ensures kept { self.new.most ≡ self.old.most }
         ensures within { IfSome result (λ i. i < self.old.most) }
     {
-        if let Some(i) = self.find(text, text.name(place)) {
+        self.intern_in(text.bytes(), place)
+    }
+
+    // The two of any bytes, also of more than a text may have
+    pub fn find_in(&self, bytes: &[u8], word: &[u8]) -> Option<usize>
+        ensures { FoundIn word.now (known bytes.now self.now) result }
+    {
+        let known = &self.places[..self.count.min(self.most)];
+        known.iter().position(|place| is_named(bytes, word, *place))
+    }
+
+    pub fn intern_in(&mut self, bytes: &[u8], place: Place) -> Option<usize>
+        ensures interned { Interned bytes.now self.old.most self.old self.new (name_at bytes.now place) result }
+        ensures kept { self.new.most ≡ self.old.most }
+        ensures within { IfSome result (λ i. i < self.old.most) }
+    {
+        if let Some(i) = self.find_in(bytes, name(bytes, place)) {
             return Some(i);
         }
         if self.count < self.most {

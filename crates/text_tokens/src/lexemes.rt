@@ -106,6 +106,19 @@ fn token_from(text: &Text, i: usize) -> Lexeme
     }
 }
 
+// The place after the next token of any bytes where that is the mark `b`. Its byte tells, as no other token starts with it: so no run is read
+// through only to see that it is no such mark.
+pub fn past_mark(bytes: &[u8], at: usize, b: u8) -> Option<usize>
+    requires { lone b ≡ true }
+    ensures { Marked bytes.now at b result }
+{
+    let i = scan::past(bytes, at, classes::is_white);
+    if i >= bytes.len() {
+        return None;
+    }
+    if bytes[i] == b { Some(i + 1) } else { None }
+}
+
 impl<'a> Text<'a> {
     // the next token from a place on, past any white space
     pub fn token(&self, at: usize) -> Lexeme
@@ -114,17 +127,11 @@ impl<'a> Text<'a> {
         token_from(self, scan::past(self.bytes(), at, classes::is_white))
     }
 
-    // The place after the next token where that is the mark `b`. Its byte tells, as no other token starts with it: so no run is read through
-    // only to see that it is no such mark.
+    // the place after the next token where that is the mark `b`
     pub fn past_mark(&self, at: usize, b: u8) -> Option<usize>
         requires { lone b ≡ true }
         ensures { Marked self.now at b result }
     {
-        let bytes = self.bytes();
-        let i = scan::past(bytes, at, classes::is_white);
-        if i >= bytes.len() {
-            return None;
-        }
-        if bytes[i] == b { Some(i + 1) } else { None }
+        past_mark(self.bytes(), at, b)
     }
 }

@@ -7,6 +7,14 @@ use crate::tokens::Place;
 use gil::limits::MOST_BYTES;
 use std::marker::Model;
 
+// what stands at a place, as far as it lies in the bytes
+pub fn name(bytes: &[u8], place: Place) -> &[u8]
+    ensures { result.now ≡ name_at bytes.now place }
+{
+    let rest = &bytes[bytes.len().min(place.start as usize)..];
+    &rest[..rest.len().min(place.size as usize)]
+}
+
 #[derive(Drop)]
 pub struct Text<'a> {
     bytes: &'a [u8],
@@ -50,7 +58,6 @@ impl<'a> Text<'a> {
     pub fn name(&self, place: Place) -> &'a [u8]
         ensures { result.now ≡ name_at self.now place }
     {
-        let rest = &self.bytes[self.bytes.len().min(place.start as usize)..];
-        &rest[..rest.len().min(place.size as usize)]
+        name(self.bytes, place)
     }
 }

@@ -1,17 +1,24 @@
-// "A letter is A to Z or a to z": the classes of characters.
+// "A letter is A to Z or a to z": the classes of characters, each a match on a byte.
 ghost use Rattle.std.specs.Prelude.{◌≡◌};
 ghost use Rattle.gil.specs.Text.{letter, digit, in_run, white};
 
 pub fn is_letter(b: u8) -> bool
     ensures { result ≡ letter b }
 {
-    b.is_ascii_alphabetic()
+    match b {
+        b'A'..=b'Z' => true,
+        b'a'..=b'z' => true,
+        _ => false,
+    }
 }
 
 pub fn is_digit(b: u8) -> bool
     ensures { result ≡ digit b }
 {
-    b.is_ascii_digit()
+    match b {
+        b'0'..=b'9' => true,
+        _ => false,
+    }
 }
 
 // What stands in a run: letters, digits and underscores. Most are small letters, so these are asked for first: one `matches!` alone cost a
