@@ -7,6 +7,9 @@ use Rattle.gil.specs.Reading.{Read, faulty, read, procedures}
 use Rattle.gil.specs.Names.{Program, Checked, refused, accepted, check_text, tested, refused_if, over_limits, wrong_names, wrong_jump, wrong_end}
 use Rattle.gil.specs.Numbers.{most_bytes, for_length, for_form, for_limits, for_names, for_jump, for_end, table_length, pool_length, inputs_length}
 use Rattle.gil.specs.Layout.{input_words}
+use Rattle.gil.specs.Refusals.{refusal_number}
+use Rattle.gil.specs.declared.refusals.Refusal.{Refusal}
+use Rattle.gil.specs.declared.refusals.Refusal.TheVariants.{Budgets, Lists, Length, Form, Limits, Names, Jump, End, Rows, Terms}
 use Rattle.gil.specs.Calls.{first_of, wrong_inputs, text_answer, check_call}
 use Rattle.gil.proofs.Theory.Tests.{chosen}
 use Rattle.machine_code.specs.Code.{program_words}
@@ -48,6 +51,19 @@ judged text = go (check_text text) refl (check-by text)
     go : (c : Checked) → check_text text ≡ c → NotNought c → Judged text (text_answer c)
     go (refused n) e (a_refusal h) = turned_down e (λ z. omega arith)
     go (accepted p) e a_program = taken_up p e
+
+-- no refusal has the number of success
+pub numbered : (r : Refusal) → refusal_number r ≡ 0 → ⊥
+numbered Budgets e = omega arith
+numbered Lists e = omega arith
+numbered Length e = omega arith
+numbered Form e = omega arith
+numbered Limits e = omega arith
+numbered Names e = omega arith
+numbered Jump e = omega arith
+numbered End e = omega arith
+numbered Rows e = omega arith
+numbered Terms e = omega arith
 
 -- where a call goes on, nothing was refused, and it has its program's words
 pub record GoesOn (budgets lists : Bool) (text code : List ℕ) : Type 0 where

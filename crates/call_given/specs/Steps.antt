@@ -8,6 +8,7 @@ use Rattle.gil.specs.Layout.{input_words}
 use Rattle.gil.specs.Calls.{first_of}
 use Rattle.lent_words.specs.Mirror.{word_at}
 use Rattle.table_locate.specs.Laws.Inputs.{input-word}
+use Rattle.text_names.specs.declared.Names.{Names}
 use Rattle.text_programs.specs.Mirror.Reads.{Reads}
 use Rattle.call_given.specs.Mirror.{Begun, is_refused, is_read}
 use Rattle.call_given.specs.Laws.{Judged, turned_down, taken_up, judged}
@@ -24,7 +25,7 @@ module _ {budgets lists : Bool} (text code : List ℕ) where
   unfolding first_of
   begun_lists e f = is_refused (first e f) (λ z. omega arith)
 
-  pub begun-text : budgets ≡ false → lists ≡ false → {names : List ℕ} {r : ℕ} → Reads text code names r → Begun budgets lists text code r
+  pub begun-text : budgets ≡ false → lists ≡ false → {names : Names} {r : ℕ} → Reads text code names r → Begun budgets lists text code r
   unfolding first_of
   begun-text e f {names} {r} reads = go (subst (Judged text) (sym reads.answer) (judged text)) reads
     where

@@ -11,10 +11,11 @@ ghost use Rattle.machine_code.specs.Code.{code_words};
 ghost use Rattle.call_given.specs.Mirror.{Begun};
 
 use gil::layout::{INPUTS_BYTES, POOL_BYTES, TABLE_BYTES};
-use gil::limits::{MOST_BRANCHES, MOST_INPUTS, MOST_STEPS};
+use gil::limits::{MOST_BRANCHES, MOST_INPUTS, MOST_PROCEDURES, MOST_STEPS};
 use gil::refusals::Refusal;
 use lent_words as words;
 use machine_code::CODE_WORDS;
+use text_names::Names;
 use text_programs::verdict;
 
 const INPUTS: usize = MOST_INPUTS as usize;
@@ -66,7 +67,7 @@ pub fn begin(
     if lists {
         return Err(Refusal::Lists);
     }
-    let mut names = [0u32; 33];
+    let mut names = Names::new(MOST_PROCEDURES);
     verdict::read_program(text, code, &mut names)
 }
 

@@ -1,5 +1,5 @@
--- `call_check::check` meets its contract. Assumes nothing.
-use mathlib.Core.Path.{refl}
+-- `check` meets its contract. Assumes nothing.
+use Rattle.std.proofs.Common.{refl}
 use Rattle.call_check.specs.Steps.{checks}
 use Rattle.call_check.proofs.check.Goals as goal
 

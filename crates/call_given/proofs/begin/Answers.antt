@@ -1,5 +1,4 @@
--- `call_given::begin` meets its contract. Assumes nothing.
-use mathlib.Core.Path.{refl}
+-- `begin` meets its contract. Assumes nothing.
 use Rattle.call_given.specs.Steps.{begun_budgets, begun_lists, begun-text}
 use Rattle.call_given.proofs.begin.Goals as goal
 
@@ -10,4 +9,4 @@ pub returns-then-lists : goal.returns-then-lists
 returns-then-lists c zeroed = begun_lists _ _ c.if-budgets.false c.if-lists.true
 
 pub returns : goal.returns
-returns c zeroed = begun-text _ _ c.if-budgets.false c.if-lists.false (c.read_program.ensures zeroed refl)
+returns c zeroed = begun-text _ _ c.if-budgets.false c.if-lists.false (c.read_program.ensures zeroed (c.new-names.ensures _))
