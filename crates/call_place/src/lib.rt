@@ -22,7 +22,7 @@ pub fn place(
     table: &mut [u8],
     pool: &mut [u8],
 ) -> Result<u32, Refusal>
-    ensures { Promise (place text.now inputs.now steps branches table.old pool.old) (record { returns = row_answer result; table = table.new; pool = pool.new }) }
+    ensures promise { Promise (place text.now inputs.now steps branches table.old pool.old) (record { returns = row_answer result; table = table.new; pool = pool.new }) }
     ensures row { IfOk result (λ row. row < most_rows) }
 {
     let budgets = given::wrong_budgets(steps, branches);
