@@ -13,5 +13,7 @@ pub mod Layout
 pub mod Calls
 pub mod Promises
 pub mod Printed
+pub mod Refusals
+pub mod Codes
 pub mod Accounts
 pub mod Cases

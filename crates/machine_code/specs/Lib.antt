@@ -1,3 +1,4 @@
 pub mod Code
+pub mod Kinds
 pub mod Mirror
 pub mod WellFormed

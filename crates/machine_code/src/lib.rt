@@ -2,6 +2,8 @@
 // path's store. A word is read as it stands, 0 past the end.
 #![tactic(auto)]
 
+pub mod kinds;
+
 ghost use Rattle.std.specs.Prelude.{◌≡◌, ◌<◌};
 ghost use Rattle.machine_code.specs.Mirror.{code_word};
 
