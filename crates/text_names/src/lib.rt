@@ -10,6 +10,7 @@ ghost use Rattle.std.specs.Prelude.{◌≡◌, ◌^◌, ◌≤◌, ◌<◌, min,
 
 use text_tokens::texts::{Text, name};
 use text_tokens::tokens::{NOWHERE, Place};
+use text_words::words;
 
 // what a table takes at most
 pub const MOST_NAMES: usize = 32;
@@ -28,7 +29,7 @@ pub struct Names {
 fn is_named(bytes: &[u8], word: &[u8], place: Place) -> bool
     ensures { result ≡ same word.now (name_at bytes.now place) }
 {
-    word == name(bytes, place)
+    words::same(word, name(bytes, place))
 }
 
 impl Names {

@@ -64,7 +64,6 @@ fn coloned(text: &Text, i: usize) -> Lexeme
 }
 
 // A run of characters from `i` on. It stands by itself, so that a mark, as most tokens are, costs none of what a run's reading needs.
-#[inline(never)]
 fn run(text: &Text, i: usize) -> Lexeme
     requires { (i < length text.now) × (in_run (get_or text.now i 0) ≡ true) }
     ensures { Found text.now i (token_from text.now i (drop i text.now)) result.token result.next }

@@ -2,4 +2,5 @@
 pub mod Classes
 pub mod Keys
 pub mod Numbers
+pub mod Same
 pub mod Words

@@ -4,6 +4,8 @@ ghost use Rattle.gil.specs.Text;
 ghost use Rattle.gil.specs.Text.{reserved_words};
 ghost use Rattle.text_words.specs.Mirror.Keys.{keyed, IsCandidate};
 
+use crate::words::same;
+
 #[derive(Clone, Copy, PartialEq, Eq)]
 pub enum Key {
     Ifgoto,
@@ -71,5 +73,5 @@ pub fn find(run: &[u8]) -> Option<Key>
     ensures { Text.find run.now reserved_words ≡ keyed result }
 {
     let (word, key) = candidate(run)?;
-    if run == word { Some(key) } else { None }
+    if same(run, word) { Some(key) } else { None }
 }

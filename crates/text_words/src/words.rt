@@ -19,6 +19,21 @@ pub enum Word {
     ISite(u32),
 }
 
+// Two runs are the same. By places, and not by `==`, which is a call for each pair of bytes: a text's check took 13 % longer (docs/DESIGN-PASS.md).
+pub fn same(a: &[u8], b: &[u8]) -> bool
+    ensures { result ≡ Text.same a.now b.now }
+{
+    if a.len() != b.len() {
+        return false;
+    }
+    for i in 0..a.len() {
+        if a[i] != b[i] {
+            return false;
+        }
+    }
+    true
+}
+
 // the number that the digits are, where all are digits and the limit is kept
 fn value(digits: &[u8], limit: u32) -> Option<u32>
     ensures { result ≡ worth limit 0 digits.now }
