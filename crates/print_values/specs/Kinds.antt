@@ -58,17 +58,34 @@ no_not And n e = omega arith
 no_not Or n e = omega arith
 
 -- a number in or out of the kinds
-either_way : (code : ℕ) → ((input_kind ≤ code) × (code ≤ or_kind)) ⊎ ((code ≡ 0) ⊎ (or_kind < code))
+abbrev pub Unread : ℕ → Type 0
+Unread code = (code ≡ 0) ⊎ (or_kind < code)
+
+either_way : (code : ℕ) → ((input_kind ≤ code) × (code ≤ or_kind)) ⊎ Unread code
 either_way code = by (ltb code input_kind) (ltb or_kind code) refl refl
   where
-    by : (d e : Bool) → ltb code input_kind ≡ d → ltb or_kind code ≡ e → ((input_kind ≤ code) × (code ≤ or_kind)) ⊎ ((code ≡ 0) ⊎ (or_kind < code))
+    by : (d e : Bool) → ltb code input_kind ≡ d → ltb or_kind code ≡ e → ((input_kind ≤ code) × (code ≤ or_kind)) ⊎ Unread code
     by true e p q = inr (inl (omega (arith, ltb-true code input_kind p)))
     by false true p q = inr (inr (ltb-true or_kind code q))
     by false false p q = inl (ltb-false code input_kind p, ltb-false or_kind code q)
 
-op_unknown : (code : ℕ) → (code ≡ 0) ⊎ (or_kind < code) → op_form or_kind ≡ op_form code
+-- what takes a number that is no kind as it takes `or` is the same of the kind that is shown
+pub known_same : {A : Type 0} (f : ℕ → A) (code : ℕ) → (Unread code → f or_kind ≡ f code) → f (known_kind code) ≡ f code
+known_same {A} f code unread = by (either_way code)
+  where
+    by : ((input_kind ≤ code) × (code ≤ or_kind)) ⊎ Unread code → f (known_kind code) ≡ f code
+    by (inl h) = ap f (is_known code h.0 h.1)
+    by (inr u) = ap f (is_unknown code u) ∙ unread u
+
+pub unread_input : (code : ℕ) → Unread code → code ≡ input_kind → ⊥
+unread_input code u e = omega arith
+
+pub unread_not : (code : ℕ) → Unread code → code ≡ not_kind → ⊥
+unread_not code u e = omega arith
+
+pub op_unread : (code : ℕ) → Unread code → op_form or_kind ≡ op_form code
 unfolding op_form
-op_unknown code u =
+op_unread code u =
     let plus : code ≡ plus_kind → ⊥ = λ e. omega arith in
     let minus : code ≡ minus_kind → ⊥ = λ e. omega arith in
     let equal : code ≡ equal_kind → ⊥ = λ e. omega arith in
@@ -78,21 +95,10 @@ op_unknown code u =
 
 -- an operator's text, and a term's, from the kind that is shown
 pub op_known : (code : ℕ) → op_form (known_kind code) ≡ op_form code
-op_known code = by (either_way code)
-  where
-    by : ((input_kind ≤ code) × (code ≤ or_kind)) ⊎ ((code ≡ 0) ⊎ (or_kind < code)) → op_form (known_kind code) ≡ op_form code
-    by (inl h) = ap op_form (is_known code h.0 h.1)
-    by (inr u) = ap op_form (is_unknown code u) ∙ op_unknown code u
+op_known code = known_same op_form code (op_unread code)
 
 pub node_known : (f : ℕ → ℕ → List ℕ) (code t x u y : ℕ) → node_form f (known_kind code) t x u y ≡ node_form f code t x u y
 unfolding node_form
-node_known f code t x u y = by (either_way code)
-  where
-    by :
-        ((input_kind ≤ code) × (code ≤ or_kind)) ⊎ ((code ≡ 0) ⊎ (or_kind < code))
-        → node_form f (known_kind code) t x u y ≡ node_form f code t x u y
-    by (inl h) = ap (λ (k : ℕ). node_form f k t x u y) (is_known code h.0 h.1)
-    by (inr v) =
-        let input : code ≡ input_kind → ⊥ = λ e. omega arith in
-        let not : code ≡ not_kind → ⊥ = λ e. omega arith in
-        ap (λ (k : ℕ). node_form f k t x u y) (is_unknown code v) ∙ simp (ne_eqb code input_kind input, ne_eqb code not_kind not, op_unknown code v)
+node_known f code t x u y =
+    known_same (λ (k : ℕ). node_form f k t x u y) code
+    (λ (v : Unread code). simp (ne_eqb code input_kind (unread_input code v), ne_eqb code not_kind (unread_not code v), op_unread code v))
