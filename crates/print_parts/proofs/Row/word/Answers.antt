@@ -1,6 +1,6 @@
--- `parts::row_word` meets its contract. Assumes nothing.
+-- `Row::word` meets its contract. Assumes nothing.
 use Rattle.print_parts.specs.Mirror.{row_word}
-use Rattle.print_parts.proofs.row_word.Goals as goal
+use Rattle.print_parts.proofs.Row.word.Goals as goal
 
 pub returns : goal.returns
 unfolding row_word
