@@ -50,6 +50,11 @@ write_on v w = record { same = w.same ∙ v.same; wrote = join v.wrote w.wrote }
 pub writes_as : {p q : Page} {s t : List ℕ} → s ≡ t → Writes p s q → Writes p t q
 writes_as e w = rw (← e) w
 
+-- what a page over `b` leaves is what was written into `b`
+pub wrote_page :
+    {b b' t : List ℕ} {p q : Page} {r : ℕ} → p.out.now ≡ b → p.at ≡ 0 → Writes p t q → b' ≡ q.out.now → r ≡ q.at → Wrote b 0 t b' r
+wrote_page {b} {b'} {t} {p} {q} {r} bytes front w e f = rw (e, f, ← bytes, ← front) w.wrote
+
 -- the next place, and the last
 pub next_in : (at : ℕ) → at < last_place → next at ≡ at + 1
 unfolding next
