@@ -3,8 +3,9 @@
 ghost use Rattle.std.specs.Prelude.{◌≡◌, ◌<◌, length, OnErr};
 ghost use Rattle.std.specs.Io.{ReadsAtMost};
 
+use lent_reads::read_full;
 use std::env::FillError;
-use std::io::{Read, Write};
+use std::io::Write;
 use std::rt::{Env, Files};
 use std::{fs, io};
 
@@ -17,22 +18,6 @@ pub const LARGE: usize = 65536;
 // Whether there is an argument i.
 pub fn is_given<R: Env>(rt: &R, i: usize) -> bool {
     !matches!(rt.arg(i, &mut []), Err(FillError::NotPresent))
-}
-
-// Reads until buf is full or the file ends, and answers how many bytes stand at the start of buf.
-fn read_full<F: Read>(file: &mut F, buf: &mut [u8]) -> io::Result<usize>
-    ensures ok { ReadsAtMost result buf.new }
-    ensures err { OnErr result (length buf.new ≡ length buf.old) }
-{
-    let mut done = 0;
-    while done < buf.len() {
-        let n = file.read(&mut buf[done..])?;
-        if n == 0 {
-            return Ok(done);
-        }
-        done += n;
-    }
-    Ok(done)
 }
 
 // Puts what a file holds at the start of buf, as much as it has room for, and answers how many bytes. Where the file cannot be opened or read, or its

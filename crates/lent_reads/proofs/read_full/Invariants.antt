@@ -1,6 +1,6 @@
--- `given::read_full` meets its contract. Assumes nothing.
+-- `read_full` meets its contract. Assumes nothing.
 use Rattle.std.proofs.Common.{length, ◌-◌, ◌≤◌}
-use Rattle.vectors.proofs.given.read_full.Given as goal
+use Rattle.lent_reads.proofs.read_full.Given as goal
 
 abbrev pub invariant-loop-done : goal.invariant-loop-done
 invariant-loop-done g l = l.done ≤ length l.buf
