@@ -62,6 +62,7 @@ impl<'a> Fields<'a> {
         ensures same { result ≡ value_size self.now.sizes tag x }
         ensures small { result < 256 }
     {
+        // a number, as in `put_value`: in `value_size` every number from a number term's on is a term's
         if tag < Tag::NumberTerm as u32 {
             constant(tag, x).size()
         } else {

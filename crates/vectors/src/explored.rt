@@ -44,6 +44,7 @@ fn surplus<W: Write>(out: &mut W, lent: Table) -> io::Result<()> {
 // What the buffers hold after the call; before it they were filled.
 fn answered<W: Write>(out: &mut W, code: u32, lent: Table) -> io::Result<()> {
     write!(out, "= {code}")?;
+    // numbers: they are what C gets
     if code != 0 && code < FIRST_ROW {
         refused(out, code, lent)?;
         surplus(out, lent)
