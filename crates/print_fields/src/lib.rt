@@ -4,127 +4,103 @@
 #![tactic(auto)]
 
 ghost use Rattle.std.specs.Prelude.{◌≡◌, ◌≤◌, ◌<◌, length};
+ghost use Rattle.gil.specs.Codes.{kind_number};
 ghost use Rattle.gil.specs.Numbers.{most_terms};
 ghost use Rattle.lent_words.specs.Mirror.{at_most};
-ghost use Rattle.print_writing.specs.Mirror.{Wrote};
-ghost use Rattle.print_values.specs.Mirror.{input_form, constant_form, op_form};
-ghost use Rattle.print_fields.specs.Mirror.{size_at, value_size, node_size, capped, term_size, sizes_to, field_form};
+ghost use Rattle.print_writing.specs.Mirror.{Writes};
+ghost use Rattle.print_fields.specs.Mirror.{no_sizes, size_at, value_size, node_size, term_size, sizes_to, field_form};
 
+use gil::kinds::TermKind;
 use gil::layout::TERM_BYTES;
 use gil::limits::MOST_TERMS;
-use gil::numbers;
-use lent_words::{at_most, wide, word_at};
-use machine_values::Input;
-use print_values::{put_constant, put_input, put_op, put_value};
-use print_writing::put_all;
+use gil::tags::Tag;
+use lent_words::{at_most, word_at};
+use print_values::{Leaf, constant, kind, op_text, put_value};
+use print_writing::Page;
 
 // The most bytes a term's text may have
 const LONGEST: u32 = 200;
 
-// The size that stands for every larger one
-pub const LARGE: u8 = 201;
+// The size that stands for every larger one. (Not a None: in `sizes_to`, by which crates/print_laws reads the sizes, it is a number.)
+const LARGE: u8 = 201;
 
-pub const TERMS: usize = MOST_TERMS as usize;
+const TERMS: usize = MOST_TERMS as usize;
 
-// The sizes of these texts: a pass over no memory counts
-fn input_size(i: Input) -> u32
-    ensures { (result ≡ length (input_form i.0)) × (result ≤ 11) }
-{
-    put_input(&mut [], 0, i) as u32
+// A pool, and the sizes of its terms' texts
+#[derive(Drop)]
+pub struct Fields<'a> {
+    pool: &'a [u8],
+    sizes: [u8; TERMS],
 }
 
-fn constant_size(tag: u32, x: u32) -> u32
-    ensures { (result ≡ length (constant_form tag x)) × (result ≤ 11) }
-{
-    put_constant(&mut [], 0, tag, x) as u32
-}
-
-fn op_size(kind: u32) -> u32
-    ensures { (result ≡ length (op_form kind)) × (result ≤ 5) }
-{
-    put_op(&mut [], 0, kind) as u32
-}
-
-// The size of term k's text, where that is taken already
-fn size_at(sizes: &[u8; TERMS], k: u32) -> u32
-    ensures { (result ≡ size_at sizes.now k) × (result < 256) }
-{
-    let at = k as usize;
-    if at < TERMS {
-        return wide(sizes[at]);
+impl<'a> Fields<'a> {
+    // Takes the sizes of the pool's terms, front to back, each once
+    pub fn new(pool: &'a [u8], terms: u32) -> Fields<'a>
+        ensures pool { result.pool.now ≡ pool.now }
+        ensures sizes { result.sizes ≡ sizes_to pool.now no_sizes (at_most most_terms terms) }
+    {
+        let mut fields = Fields {
+            pool,
+            sizes: [LARGE; TERMS],
+        };
+        for k in 0..at_most(MOST_TERMS, terms) {
+            let size = fields.term_size(k);
+            fields.sizes[k as usize] = size;
+        }
+        fields
     }
-    LONGEST + 1
-}
 
-fn value_size(sizes: &[u8; TERMS], tag: u32, x: u32) -> u32
-    ensures { (result ≡ value_size sizes.now tag x) × (result < 256) }
-{
-    if tag < numbers::NUMBER_TERM_TAG {
-        return constant_size(tag, x);
+    // The size of term k's text, where that is taken already
+    fn size_at(&self, k: u32) -> u32
+        ensures same { result ≡ size_at self.now.sizes k }
+        ensures small { result < 256 }
+    {
+        self.sizes.get(k as usize).copied().unwrap_or(LARGE) as u32
     }
-    size_at(sizes, x)
-}
 
-// The size of a term's text, from its five words and the sizes of the terms before
-fn node_size(sizes: &[u8; TERMS], kind: u32, t: u32, x: u32, u: u32, y: u32) -> u32
-    ensures { result ≡ node_size sizes.now kind t x u y }
-{
-    if kind == numbers::INPUT_KIND {
-        return input_size(Input(x));
+    fn value_size(&self, tag: u32, x: u32) -> u32
+        ensures same { result ≡ value_size self.now.sizes tag x }
+        ensures small { result < 256 }
+    {
+        // a number, as in `put_value`: in `value_size` every number from a number term's on is a term's
+        if tag < Tag::NumberTerm as u32 {
+            constant(tag, x).size()
+        } else {
+            self.size_at(x)
+        }
     }
-    if kind == numbers::NOT_KIND {
-        return 4 + value_size(sizes, t, x);
-    }
-    2 + value_size(sizes, t, x) + op_size(kind) + value_size(sizes, u, y)
-}
 
-fn capped(n: u32) -> u8
-    ensures { result ≡ capped n }
-{
-    if LONGEST < n {
-        return LARGE;
+    // The size of a term's text, from its kind, its four words and the sizes of the terms before
+    fn node_size(&self, kind: TermKind, t: u32, x: u32, u: u32, y: u32) -> u32
+        ensures { result ≡ node_size self.now.sizes (kind_number kind) t x u y }
+    {
+        match kind {
+            TermKind::Input => Leaf::Input(x).size(),
+            TermKind::Not => 4 + self.value_size(t, x),
+            op => 2 + self.value_size(t, x) + op_text(op).len() as u32 + self.value_size(u, y),
+        }
     }
-    n as u8
-}
 
-fn term_size(pool: &[u8], sizes: &[u8; TERMS], k: u32) -> u8
-    ensures { result ≡ term_size pool.now sizes.now k }
-{
-    let at = TERM_BYTES * (k as usize);
-    let kind = word_at(pool, at);
-    let t = word_at(pool, at + 4);
-    let x = word_at(pool, at + 8);
-    let u = word_at(pool, at + 12);
-    let y = word_at(pool, at + 16);
-    capped(node_size(sizes, kind, t, x, u, y))
-}
-
-// The sizes of the pool's terms, front to back, each once
-pub fn measure(pool: &[u8], sizes: &mut [u8; TERMS], terms: u32)
-    ensures { sizes.new ≡ sizes_to pool.now sizes.old (at_most most_terms terms) }
-{
-    let n = at_most(MOST_TERMS, terms);
-    let mut k = 0;
-    while k < n {
-        let s = term_size(pool, sizes, k);
-        sizes[k as usize] = s;
-        k += 1;
+    fn term_size(&self, k: u32) -> u8
+        ensures { result ≡ term_size self.now.pool.now self.now.sizes k }
+    {
+        let at = TERM_BYTES * (k as usize);
+        let kind = kind(word_at(self.pool, at));
+        let t = word_at(self.pool, at + 4);
+        let x = word_at(self.pool, at + 8);
+        let u = word_at(self.pool, at + 12);
+        let y = word_at(self.pool, at + 16);
+        self.node_size(kind, t, x, u, y).min(LARGE as u32) as u8
     }
-}
 
-// "one whose text would pass 200 bytes prints as `large`"
-pub fn put_field(
-    out: &mut [u8],
-    at: usize,
-    pool: &[u8],
-    sizes: &[u8; TERMS],
-    tag: u32,
-    x: u32,
-) -> usize
-    ensures { Wrote out.old at (field_form pool.now sizes.now tag x) out.new result }
-{
-    if LONGEST < value_size(sizes, tag, x) {
-        return put_all(out, at, b"large");
+    // "one whose text would pass 200 bytes prints as `large`"
+    pub fn put(&self, page: &mut Page, tag: u32, x: u32)
+        ensures { Writes page.old (field_form self.now.pool.now self.now.sizes tag x) page.new }
+    {
+        if LONGEST < self.value_size(tag, x) {
+            page.put_all(b"large");
+        } else {
+            put_value(page, self.pool, LONGEST, tag, x);
+        }
     }
-    put_value(out, at, pool, LONGEST, tag, x)
 }

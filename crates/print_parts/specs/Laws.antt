@@ -1,8 +1,9 @@
 -- Things printed in a row, as conditions are here and rows in crates/print_lines: one more of them. Assumes nothing.
-use Rattle.std.specs.Prelude.{ℕ, zero, suc, ◌+◌, ◌≡◌, List, ◌++◌}
+use Rattle.std.specs.Prelude.{ℕ, zero, suc, ◌+◌, ◌-◌, ◌≤◌, ◌≡◌, List, ◌++◌}
 use Rattle.std.proofs.Common.{arith, add-one, sym, ◌∙◌, ap, append_assoc, append-nil}
-use Rattle.print_writing.specs.Mirror.{Wrote}
-use Rattle.print_writing.specs.Laws.{join, wrote_as, wrote_none}
+use Rattle.print_writing.specs.declared.Page.{Page}
+use Rattle.print_writing.specs.Mirror.{Writes}
+use Rattle.print_writing.specs.Laws.{write_on, writes_as, write_none}
 use Rattle.print_parts.specs.Mirror.{runs}
 
 runs_snoc : (f : ℕ → List ℕ) (i n : ℕ) → runs f i (suc n) ≡ runs f i n ++ f (i + n)
@@ -15,15 +16,20 @@ runs_snoc f i (suc n) =
     ∙ ap (λ (k : ℕ). (f i ++ runs f (suc i) n) ++ f k) e
 
 pub runs-more :
-    (f : ℕ → List ℕ) (i n : ℕ) {b b' c : List ℕ} {at m r : ℕ} → Wrote b at (runs f i n) b' m → Wrote b' m (f (i + n)) c r
-    → Wrote b at (runs f i (n + 1)) c r
-runs-more f i n v w = wrote_as (sym (ap (runs f i) (add-one n) ∙ runs_snoc f i n)) (join v w)
+    (f : ℕ → List ℕ) (i n : ℕ) {p q r : Page} → Writes p (runs f i n) q → Writes q (f (i + n)) r → Writes p (runs f i (n + 1)) r
+runs-more f i n v w = writes_as (sym (ap (runs f i) (add-one n) ∙ runs_snoc f i n)) (write_on v w)
 
-pub rows_more :
-    (f : ℕ → List ℕ) (n : ℕ) {b b' c : List ℕ} {at m r : ℕ} → Wrote b at (runs f 0 n) b' m → Wrote b' m (f n) c r
-    → Wrote b at (runs f 0 (n + 1)) c r
-rows_more f n v w = let e : n ≡ 0 + n = omega arith in runs-more f 0 n v (wrote_as (ap f e) w)
+pub rows_more : (f : ℕ → List ℕ) (n : ℕ) {p q r : Page} → Writes p (runs f 0 n) q → Writes q (f n) r → Writes p (runs f 0 (n + 1)) r
+rows_more f n v w = let e : n ≡ 0 + n = omega arith in runs-more f 0 n v (writes_as (ap f e) w)
 
-pub runs_none : (f : ℕ → List ℕ) (i : ℕ) (b : List ℕ) (at : ℕ) → Wrote b at (runs f i 0) b at
+-- the same of things after the first, up to thing `i`
+pub further_more :
+    (f : ℕ → List ℕ) (i : ℕ) {p q r : Page} → 1 ≤ i → Writes p (runs f 1 (i - 1)) q → Writes q (f i) r → Writes p (runs f 1 (i + 1 - 1)) r
+further_more f i h v w =
+    let e : i ≡ 1 + (i - 1) = omega arith in
+    let g : i - 1 + 1 ≡ i + 1 - 1 = omega arith in
+    writes_as (ap (runs f 1) g) (runs-more f 1 (i - 1) v (writes_as (ap f e) w))
+
+pub runs_none : (f : ℕ → List ℕ) (i : ℕ) (p : Page) → Writes p (runs f i 0) p
 unfolding runs
-runs_none f i b at = wrote_none b at
+runs_none f i p = write_none p

@@ -4,138 +4,109 @@
 #![tactic(auto)]
 
 ghost use Rattle.std.specs.Prelude.{◌≡◌, ◌<◌};
-ghost use Rattle.gil.specs.Numbers.{most_branches, conditions_word};
+ghost use Rattle.gil.specs.Numbers.{most_branches, outcome_word, tag_word, value_word, conditions_word};
 ghost use Rattle.lent_words.specs.Mirror.{at_most};
-ghost use Rattle.print_writing.specs.Mirror.{Wrote};
-ghost use Rattle.print_parts.specs.Mirror.{runs, cut_form, outcome_form, unless_form, row_word, condition_form, further_form, conditions_form};
+ghost use Rattle.print_writing.specs.Mirror.{Writes};
+ghost use Rattle.print_parts.specs.Mirror.{cut_form, outcome_form, unless_form, row_word, condition_form, conditions_form};
 
-use gil::{layout, limits, numbers};
+use gil::outcomes::{Outcome, Reason};
+use gil::tags::Tag;
+use gil::{layout, limits};
 use lent_words::{at_most, word_at};
-use print_fields::{TERMS, put_field};
-use print_writing::{put_all, put_decimal};
+use print_fields::Fields;
+use print_writing::{Page, Text};
 
 // Where a row's conditions begin, in words: a term's place, and after it the truth that it must have
 const CONDITIONS: u32 = (layout::CONDITIONS_AT / 4) as u32;
 
 const TRUTHS: u32 = CONDITIONS + 1;
 
-fn put_cut(out: &mut [u8], at: usize, why: u32) -> usize
-    ensures { Wrote out.old at (cut_form why) out.new result }
+// A path that was cut, by its reason's number: what is no reason is shown as branches
+fn put_cut(page: &mut Page, why: u32)
+    ensures { Writes page.old (cut_form why) page.new }
 {
-    if why == numbers::FOR_STEPS {
-        return put_all(out, at, b"cut,steps");
+    match Reason::try_from(why).unwrap_or(Reason::Branches) {
+        Reason::Steps => page.put_all(b"cut,steps"),
+        Reason::Branches => page.put_all(b"cut,branches"),
     }
-    put_all(out, at, b"cut,branches")
-}
-
-// Outcome and value
-pub fn put_outcome(
-    out: &mut [u8],
-    at: usize,
-    pool: &[u8],
-    sizes: &[u8; TERMS],
-    kind: u32,
-    tag: u32,
-    x: u32,
-) -> usize
-    ensures { Wrote out.old at (outcome_form pool.now sizes.now kind tag x) out.new result }
-{
-    match kind {
-        numbers::AS_RETURNED => {
-            let v = put_all(out, at, b"returned,");
-            put_field(out, v, pool, sizes, tag, x)
-        }
-        numbers::AS_FAILED => {
-            let v = put_all(out, at, b"failed,");
-            put_field(out, v, pool, sizes, tag, x)
-        }
-        numbers::AS_VANISHED => put_all(out, at, b"vanished,"),
-        numbers::AS_ERROR => {
-            let v = put_all(out, at, b"error,");
-            put_decimal(out, v, x)
-        }
-        _ => put_cut(out, at, x),
-    }
-}
-
-// Word m of a row
-pub fn row_word(table: &[u8], row: u32, m: u32) -> u32
-    ensures { result ≡ row_word table.now row m }
-{
-    word_at(
-        table,
-        layout::HEADING_BYTES + layout::ROW_BYTES * (row as usize) + 4 * (m as usize),
-    )
 }
 
 // "A condition that must be false has `not ` before it."
-fn put_unless(out: &mut [u8], at: usize, truth: u32) -> usize
-    ensures { Wrote out.old at (unless_form truth) out.new result }
+fn put_unless(page: &mut Page, truth: u32)
+    ensures { Writes page.old (unless_form truth) page.new }
 {
     if truth == 0 {
-        return put_all(out, at, b"not ");
+        page.put_all(b"not ");
     }
-    at
 }
 
-fn put_condition(
-    out: &mut [u8],
-    at: usize,
-    table: &[u8],
-    pool: &[u8],
-    sizes: &[u8; TERMS],
-    row: u32,
-    i: u32,
-) -> usize
-    requires { i < most_branches }
-    ensures { Wrote out.old at (condition_form table.now pool.now sizes.now row i) out.new result }
-{
-    let k = row_word(table, row, CONDITIONS + 2 * i);
-    let not = put_unless(out, at, row_word(table, row, TRUTHS + 2 * i));
-    put_field(out, not, pool, sizes, numbers::BOOLEAN_TERM_TAG, k)
+// A row of a table, and the fields of the table's pool
+#[derive(Drop)]
+pub struct Row<'a> {
+    pub table: &'a [u8],
+    pub fields: &'a Fields<'a>,
+    pub number: u32,
 }
 
-// The `n` conditions after the first
-fn put_further(
-    out: &mut [u8],
-    at: usize,
-    table: &[u8],
-    pool: &[u8],
-    sizes: &[u8; TERMS],
-    row: u32,
-    n: u32,
-) -> usize
-    requires { n < most_branches }
-    ensures { Wrote out.old at (runs (further_form table.now pool.now sizes.now row) 1 n) out.new result }
-{
-    let mut place = at;
-    let mut i = 0;
-    while i < n {
-        let next = put_all(out, place, b"; ");
-        place = put_condition(out, next, table, pool, sizes, row, 1 + i);
-        i += 1;
+impl Row<'_> {
+    // Word m of the row
+    pub fn word(&self, m: u32) -> u32
+        ensures { result ≡ row_word self.now.table.now self.now.number m }
+    {
+        word_at(
+            self.table,
+            layout::HEADING_BYTES + layout::ROW_BYTES * (self.number as usize) + 4 * (m as usize),
+        )
     }
-    place
-}
 
-// "conditions joined by `; `, or `true` where there are none"
-pub fn put_conditions(
-    out: &mut [u8],
-    at: usize,
-    table: &[u8],
-    pool: &[u8],
-    sizes: &[u8; TERMS],
-    row: u32,
-) -> usize
-    ensures { Wrote out.old at (conditions_form table.now pool.now sizes.now row (at_most most_branches (row_word table.now row conditions_word))) out.new result }
-{
-    let n = at_most(
-        limits::MOST_BRANCHES,
-        row_word(table, row, layout::CONDITIONS_WORD),
-    );
-    if n == 0 {
-        return put_all(out, at, b"true");
+    // Outcome and value: what is no outcome is shown as cut
+    pub fn put_outcome(&self, page: &mut Page)
+        ensures { let word = row_word self.now.table.now self.now.number in
+            Writes page.old (outcome_form self.now.fields.now.pool.now self.now.fields.now.sizes (word outcome_word) (word tag_word) (word value_word)) page.new }
+    {
+        let tag = self.word(layout::TAG_WORD);
+        let x = self.word(layout::VALUE_WORD);
+        match Outcome::try_from(self.word(layout::OUTCOME_WORD)).unwrap_or(Outcome::Cut) {
+            Outcome::Returned => {
+                page.put_all(b"returned,");
+                self.fields.put(page, tag, x);
+            }
+            Outcome::Failed => {
+                page.put_all(b"failed,");
+                self.fields.put(page, tag, x);
+            }
+            Outcome::Vanished => page.put_all(b"vanished,"),
+            Outcome::Error => {
+                page.put_all(b"error,");
+                x.put_on(page);
+            }
+            Outcome::Cut => put_cut(page, x),
+        }
     }
-    let first = put_condition(out, at, table, pool, sizes, row, 0);
-    put_further(out, first, table, pool, sizes, row, n - 1)
+
+    fn put_condition(&self, page: &mut Page, i: u32)
+        requires { i < most_branches }
+        ensures { Writes page.old (condition_form self.now.table.now self.now.fields.now.pool.now self.now.fields.now.sizes self.now.number i) page.new }
+    {
+        let k = self.word(CONDITIONS + 2 * i);
+        put_unless(page, self.word(TRUTHS + 2 * i));
+        self.fields.put(page, Tag::BooleanTerm as u32, k);
+    }
+
+    // "conditions joined by `; `, or `true` where there are none"
+    pub fn put_conditions(&self, page: &mut Page)
+        ensures { let count = at_most most_branches (row_word self.now.table.now self.now.number conditions_word) in
+            Writes page.old (conditions_form self.now.table.now self.now.fields.now.pool.now self.now.fields.now.sizes self.now.number count) page.new }
+    {
+        let n = at_most(limits::MOST_BRANCHES, self.word(layout::CONDITIONS_WORD));
+        if n == 0 {
+            page.put_all(b"true");
+            return;
+        }
+        self.put_condition(page, 0);
+        for i in 1..n {
+            page.put_all(b"; ");
+            self.put_condition(page, i);
+        }
+    }
 }

@@ -1,2 +1,4 @@
 pub mod Mirror
+pub mod Leaves
+pub mod Kinds
 pub mod Laws

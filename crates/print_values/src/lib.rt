@@ -2,86 +2,85 @@
 // on any bytes, is specs/Mirror.antt's; crates/print_laws shows that this is document 01's printed form.
 #![tactic(auto)]
 
-ghost use Rattle.print_writing.specs.Mirror.{Wrote};
-ghost use Rattle.print_values.specs.Mirror.{input_form, location_form, constant_form, op_form, value_form};
+ghost use Rattle.std.specs.Prelude.{◌≡◌};
+ghost use Rattle.gil.specs.Codes.{kind_number};
+ghost use Rattle.print_writing.specs.Mirror.{Writes};
+ghost use Rattle.print_values.specs.Mirror.{constant_form, op_form, value_form};
+ghost use Rattle.print_values.specs.Kinds.{known_kind};
+ghost use Rattle.print_values.specs.Leaves.{leaf_form};
 
+mod leaf;
+
+use gil::kinds::TermKind;
 use gil::layout::TERM_BYTES;
-use gil::numbers;
+use gil::tags::Tag;
+pub use leaf::Leaf;
 use lent_words::word_at;
-use machine_values::{Input, Location};
-use print_writing::{put, put_all, put_decimal};
+use print_writing::{Page, Text};
 
-// "Terms print with `#k`, `$k`": an input, and a location
-pub fn put_input(out: &mut [u8], at: usize, i: Input) -> usize
-    ensures { Wrote out.old at (input_form i.0) out.new result }
+// A constant, by its tag and its word: a number, a truth, and what has any other tag a location
+pub fn constant(tag: u32, x: u32) -> Leaf
+    ensures { leaf_form result ≡ constant_form tag x }
 {
-    let number = put(out, at, b'#');
-    put_decimal(out, number, i.0)
-}
-
-fn put_location(out: &mut [u8], at: usize, l: Location) -> usize
-    ensures { Wrote out.old at (location_form l.0) out.new result }
-{
-    let number = put(out, at, b'$');
-    put_decimal(out, number, l.0)
-}
-
-// A constant, by its tag and its word
-pub fn put_constant(out: &mut [u8], at: usize, tag: u32, x: u32) -> usize
-    ensures { Wrote out.old at (constant_form tag x) out.new result }
-{
-    if tag == numbers::NUMBER_TAG {
-        return put_decimal(out, at, x);
+    let Ok(tag) = Tag::try_from(tag) else {
+        return Leaf::Location(x);
+    };
+    match tag {
+        Tag::Number => Leaf::Number(x),
+        Tag::Boolean => Leaf::Truth(x != 0),
+        _ => Leaf::Location(x),
     }
-    if tag == numbers::BOOLEAN_TAG {
-        if x == 0 {
-            return put_all(out, at, b"false");
-        }
-        return put_all(out, at, b"true");
-    }
-    put_location(out, at, Location(x))
 }
 
-// One space around an operator
-pub fn put_op(out: &mut [u8], at: usize, kind: u32) -> usize
-    ensures { Wrote out.old at (op_form kind) out.new result }
+// What a term is: one of no kind is shown as `or`
+pub fn kind(code: u32) -> TermKind
+    ensures { kind_number result ≡ known_kind code }
+{
+    TermKind::try_from(code).unwrap_or(TermKind::Or)
+}
+
+// An operator with one space around it
+pub fn op_text(kind: TermKind) -> &'static [u8]
+    ensures { result.now ≡ op_form (kind_number kind) }
 {
     match kind {
-        numbers::PLUS_KIND => put_all(out, at, b" + "),
-        numbers::MINUS_KIND => put_all(out, at, b" - "),
-        numbers::EQUAL_KIND => put_all(out, at, b" = "),
-        numbers::LESS_KIND => put_all(out, at, b" < "),
-        numbers::AND_KIND => put_all(out, at, b" and "),
-        _ => put_all(out, at, b" or "),
+        TermKind::Plus => b" + ",
+        TermKind::Minus => b" - ",
+        TermKind::Equal => b" = ",
+        TermKind::Less => b" < ",
+        TermKind::And => b" and ",
+        TermKind::Or | TermKind::Input | TermKind::Not => b" or ",
     }
 }
 
 // A value, its operators at most `deep` deep. A text of at most 200 bytes is no deeper than that: each operator adds a byte or more.
-pub fn put_value(out: &mut [u8], at: usize, pool: &[u8], deep: u32, tag: u32, x: u32) -> usize
-    ensures { Wrote out.old at (value_form pool.now deep tag x) out.new result }
+pub fn put_value(page: &mut Page, pool: &[u8], deep: u32, tag: u32, x: u32)
+    ensures { Writes page.old (value_form pool.now deep tag x) page.new }
 {
-    if tag < numbers::NUMBER_TERM_TAG {
-        return put_constant(out, at, tag, x);
+    // a number, and no match on a `Tag`: in `value_form` every number from a number term's on is a term's, also one that is no tag
+    if tag < Tag::NumberTerm as u32 {
+        return constant(tag, x).put_on(page);
     }
     if deep == 0 {
-        return at;
+        return;
     }
     let k = TERM_BYTES * (x as usize);
-    let kind = word_at(pool, k);
-    let a = word_at(pool, k + 8);
-    if kind == numbers::INPUT_KIND {
-        return put_input(out, at, Input(a));
-    }
     let t = word_at(pool, k + 4);
-    if kind == numbers::NOT_KIND {
-        let not = put_all(out, at, b"not ");
-        return put_value(out, not, pool, deep - 1, t, a);
+    let a = word_at(pool, k + 8);
+    match kind(word_at(pool, k)) {
+        TermKind::Input => Leaf::Input(a).put_on(page),
+        TermKind::Not => {
+            page.put_all(b"not ");
+            put_value(page, pool, deep - 1, t, a);
+        }
+        op => {
+            let u = word_at(pool, k + 12);
+            let b = word_at(pool, k + 16);
+            page.put(b'(');
+            put_value(page, pool, deep - 1, t, a);
+            page.put_all(op_text(op));
+            put_value(page, pool, deep - 1, u, b);
+            page.put(b')');
+        }
     }
-    let u = word_at(pool, k + 12);
-    let b = word_at(pool, k + 16);
-    let begun = put(out, at, b'(');
-    let left = put_value(out, begun, pool, deep - 1, t, a);
-    let op = put_op(out, left, kind);
-    let right = put_value(out, op, pool, deep - 1, u, b);
-    put(out, right, b')')
 }

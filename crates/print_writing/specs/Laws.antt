@@ -6,7 +6,8 @@ use Rattle.std.proofs.Math.Seq.{set_out}
 use Rattle.std.proofs.lemmas.List.Edits.{sets, sets-eq}
 use Rattle.gil.specs.Printed.{digits, decimal}
 use Rattle.machine_code.specs.Mirror.{if?}
-use Rattle.print_writing.specs.Mirror.{last_place, next, reached, filled, Wrote}
+use Rattle.print_writing.specs.Mirror.{last_place, next, reached, filled, Wrote, Writes}
+use Rattle.print_writing.specs.declared.Page.{Page}
 
 length-filled : (b : List ℕ) (at : ℕ) (t : List ℕ) → length (filled b at t) ≡ length b
 unfolding filled
@@ -38,6 +39,21 @@ join {b} {b'} {c} {s} {t} {at} {m} {r} v w =
 -- the same, of a text that is known to be another
 pub wrote_as : {b b' s t : List ℕ} {at r : ℕ} → s ≡ t → Wrote b at s b' r → Wrote b at t b' r
 wrote_as e w = rw (← e) w
+
+-- the same of pages
+pub write_none : (p : Page) → Writes p [] p
+write_none p = record { same = refl; wrote = wrote_none p.out.now p.at }
+
+pub write_on : {p q r : Page} {s t : List ℕ} → Writes p s q → Writes q t r → Writes p (s ++ t) r
+write_on v w = record { same = w.same ∙ v.same; wrote = join v.wrote w.wrote }
+
+pub writes_as : {p q : Page} {s t : List ℕ} → s ≡ t → Writes p s q → Writes p t q
+writes_as e w = rw (← e) w
+
+-- what a page over `b` leaves is what was written into `b`
+pub wrote_page :
+    {b b' t : List ℕ} {p q : Page} {r : ℕ} → p.out.now ≡ b → p.at ≡ 0 → Writes p t q → b' ≡ q.out.now → r ≡ q.at → Wrote b 0 t b' r
+wrote_page {b} {b'} {t} {p} {q} {r} bytes front w e f = rw (e, f, ← bytes, ← front) w.wrote
 
 -- the next place, and the last
 pub next_in : (at : ℕ) → at < last_place → next at ≡ at + 1
@@ -84,6 +100,10 @@ filled-full b at (x ∷ t) h =
 -- Over no memory the place is the text's length, and nothing is written
 pub measured : {t b' : List ℕ} {r : ℕ} → length t ≤ last_place → Wrote [] 0 t b' r → (r ≡ length t) × (b' ≡ [])
 measured {t} h w = (counted h w, w.bytes ∙ filled-full [] 0 t (omega arith))
+
+-- so a page's place is the text's length
+pub page_measured : {p q : Page} {t : List ℕ} → length t ≤ last_place → p.at ≡ 0 → Writes p t q → q.at ≡ length t
+page_measured {p} {q} {t} h front w = let g : 0 + length t ≤ last_place = omega arith in w.wrote.place ∙ ap (λ (n : ℕ). reached n t) front ∙ reached-far 0 t g ∙ omega arith
 
 -- As much of a text as there is room for stands at the front of a memory, and the rest is as it was; all of it is counted
 pub record Front (t b b' : List ℕ) (r : ℕ) : Type 0 where

@@ -2,6 +2,7 @@
 -- on. `Wrote` is every writer's contract. Assumes nothing.
 use Rattle.std.specs.Prelude.{ℕ, ◌+◌, ◌≡◌, List, [], ◌∷◌, set, ltb}
 use Rattle.machine_code.specs.Mirror.{if?}
+use Rattle.print_writing.specs.declared.Page.{Page}
 
 -- the last place that a 64-bit number tells: counting ends there, and no memory is longer
 abbrev pub last_place : ℕ
@@ -24,3 +25,8 @@ filled b at (x ∷ t) = filled (set b at x) (next at) t
 pub record Wrote (b : List ℕ) (at : ℕ) (t b' : List ℕ) (r : ℕ) : Type 0 where
   pub bytes : b' ≡ filled b at t
   pub place : r ≡ reached at t
+
+-- the same of a page: it lends the same memory on
+pub record Writes (p : Page) (t : List ℕ) (q : Page) : Type 0 where
+  pub same : q.out.ghost_name ≡ p.out.ghost_name
+  pub wrote : Wrote p.out.now p.at t q.out.now q.at

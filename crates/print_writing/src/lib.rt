@@ -1,76 +1,86 @@
-// Text written forward into lent memory, byte after byte: each writer takes a place and gives the place after its text. All are total: what
-// finds no room is dropped, and counts. So two texts written one after the other are their join, whatever the room, and a pass over no
-// memory gives a text's length.
+// Text written forward into lent memory, byte after byte. All writers are total: what finds no room is dropped, and counts. So two texts written
+// one after the other are their join, whatever the room, and a page over no memory gives a text's length.
 #![tactic(auto)]
 
-ghost use Rattle.std.specs.Prelude.{◌≡◌, [], ◌∷◌};
+ghost use Rattle.std.specs.Prelude.{◌≡◌, ◌≤◌, ℕ, List, [], ◌∷◌, length};
 ghost use Rattle.gil.specs.Text.{part};
-ghost use Rattle.gil.specs.Printed.{digits, decimal};
-ghost use Rattle.print_writing.specs.Mirror.{next, Wrote};
+ghost use Rattle.gil.specs.Printed.{decimal};
+ghost use Rattle.print_writing.specs.Mirror.{last_place, Writes};
 
-// The last place that there is: counting ends there, which no memory reaches
-const LAST_PLACE: usize = 18446744073709551615;
+use itoa::Buffer;
 
-fn next(at: usize) -> usize
-    ensures { result ≡ next at }
-{
-    if at < LAST_PLACE { at + 1 } else { at }
+// Lent memory, and the place of the next byte
+#[derive(Drop)]
+pub struct Page<'a> {
+    out: &'a mut [u8],
+    at: usize,
 }
 
-// A byte, and the place after it
-pub fn put(out: &mut [u8], at: usize, x: u8) -> usize
-    ensures { Wrote out.old at (x ∷ []) out.new result }
-{
-    if at < out.len() {
-        out[at] = x;
-        return at + 1;
+impl<'a> Page<'a> {
+    pub fn new(out: &'a mut [u8]) -> Page<'a>
+        ensures same { result.out.ghost_name ≡ out.entry.ghost_name }
+        ensures bytes { result.out.now ≡ out.old }
+        ensures front { result.at ≡ 0 }
+    {
+        Page { out, at: 0 }
     }
-    next(at)
+
+    // How many bytes were written, those that found no room too
+    pub fn count(&self) -> usize
+        ensures { result ≡ self.now.at }
+    {
+        self.at
+    }
+
+    pub fn put(&mut self, x: u8)
+        ensures { Writes self.old (x ∷ []) self.new }
+    {
+        if self.at < self.out.len() {
+            self.out[self.at] = x;
+        }
+        self.at = self.at.saturating_add(1);
+    }
+
+    pub fn put_all(&mut self, s: &[u8])
+        ensures { Writes self.old s.now self.new }
+    {
+        for &x in s {
+            self.put(x);
+        }
+    }
+
+    // The `n` bytes of a text from a place, or those of them that are there
+    pub fn put_part(&mut self, s: &[u8], from: u32, n: u32)
+        ensures { Writes self.old (part s.now from n) self.new }
+    {
+        let start = from as usize;
+        let end = start + n as usize;
+        self.put_all(&s[start.min(s.len())..end.min(s.len())]);
+    }
 }
 
-pub fn put_all(out: &mut [u8], at: usize, s: &[u8]) -> usize
-    ensures { Wrote out.old at s.now out.new result }
-{
-    let mut place = at;
-    let mut i = 0;
-    while i < s.len() {
-        place = put(out, place, s[i]);
-        i += 1;
-    }
-    place
+// What has a text of its own. (A `Display` with `write!` gives a `Result`, and no clause of std's rules out its `Err`, where less would be written.)
+pub trait Text {
+    ghost text: { Self → List ℕ };
+
+    fn put_on(&self, page: &mut Page)
+        ensures { Writes page.old (text self.now) page.new };
 }
 
-// The `n` bytes of a text from a place, or those of them that are there
-pub fn put_part(out: &mut [u8], at: usize, s: &[u8], from: u32, n: u32) -> usize
-    ensures { Wrote out.old at (part s.now from n) out.new result }
-{
-    let start = from as usize;
-    let end = start + n as usize;
-    if s.len() < start {
-        return at;
+impl Text for u32 {
+    ghost text = { decimal };
+
+    fn put_on(&self, page: &mut Page) {
+        page.put_all(Buffer::new().format(*self).as_bytes());
     }
-    if s.len() < end {
-        return put_all(out, at, &s[start..]);
-    }
-    put_all(out, at, &s[start..end])
 }
 
-// Decimal, with at most `more` digits more than one
-pub fn put_digits(out: &mut [u8], at: usize, n: u32, more: u8) -> usize
-    ensures { Wrote out.old at (digits more n) out.new result }
+// How long a text is: a page over no memory counts
+pub fn size_of<T: Text>(x: &T) -> usize
+    requires { length (T.text x.now) ≤ last_place }
+    ensures { result ≡ length (T.text x.now) }
 {
-    if more == 0 {
-        return put(out, at, (48 + n % 10) as u8);
-    }
-    if n < 10 {
-        return put(out, at, (48 + n) as u8);
-    }
-    let last = put_digits(out, at, n / 10, more - 1);
-    put(out, last, (48 + n % 10) as u8)
-}
-
-pub fn put_decimal(out: &mut [u8], at: usize, n: u32) -> usize
-    ensures { Wrote out.old at (decimal n) out.new result }
-{
-    put_digits(out, at, n, 9)
+    let mut page = Page::new(&mut []);
+    x.put_on(&mut page);
+    page.count()
 }

@@ -5,7 +5,6 @@ use crate::given::{LARGE, file};
 use std::io;
 use std::io::Write;
 use std::rt::{Env, Files};
-use vectors_shown::bytes::{number, text};
 
 // The vector whose arguments begin at i.
 pub fn vector<R: Env + Files, W: Write>(rt: &R, out: &mut W, i: usize) -> io::Result<()>
@@ -13,6 +12,6 @@ pub fn vector<R: Env + Files, W: Write>(rt: &R, out: &mut W, i: usize) -> io::Re
 {
     let mut program = [0u8; LARGE];
     let n = file(rt, out, i, &mut program)?;
-    number(out, bench::chomphurek_check(&program[..n]))?;
-    text(out, b"\n")
+    let code = bench::chomphurek_check(&program[..n]);
+    writeln!(out, "{code}")
 }

@@ -3,11 +3,11 @@
 ghost use Rattle.std.specs.Prelude.{◌≡◌, ◌<◌, length, OnErr};
 ghost use Rattle.std.specs.Io.{ReadsAtMost};
 
+use lent_reads::read_full;
 use std::env::FillError;
-use std::io::{Read, Write};
+use std::io::Write;
 use std::rt::{Env, Files};
 use std::{fs, io};
-use vectors_shown::bytes::text;
 
 // room for an argument, or for an input list
 pub const SMALL: usize = 4096;
@@ -18,22 +18,6 @@ pub const LARGE: usize = 65536;
 // Whether there is an argument i.
 pub fn is_given<R: Env>(rt: &R, i: usize) -> bool {
     !matches!(rt.arg(i, &mut []), Err(FillError::NotPresent))
-}
-
-// Reads until buf is full or the file ends, and answers how many bytes stand at the start of buf.
-fn read_full<F: Read>(file: &mut F, buf: &mut [u8]) -> io::Result<usize>
-    ensures ok { ReadsAtMost result buf.new }
-    ensures err { OnErr result (length buf.new ≡ length buf.old) }
-{
-    let mut done = 0;
-    while done < buf.len() {
-        let n = file.read(&mut buf[done..])?;
-        if n == 0 {
-            return Ok(done);
-        }
-        done += n;
-    }
-    Ok(done)
 }
 
 // Puts what a file holds at the start of buf, as much as it has room for, and answers how many bytes. Where the file cannot be opened or read, or its
@@ -49,14 +33,15 @@ fn read<R: Files>(rt: &R, path: &[u8], buf: &mut [u8]) -> io::Result<usize>
     read_full(&mut file, buf)
 }
 
-// Puts argument i at the start of buf, prints it, and answers how many bytes it has: none where it is missing or has no room.
+// Puts argument i at the start of buf, prints it, and answers how many bytes it has: none where it is missing or has no room. (An argument is bytes,
+// which need be no text: `write!` can't show it.)
 fn word<R: Env, W: Write>(rt: &R, out: &mut W, i: usize, buf: &mut [u8]) -> io::Result<usize>
     ensures ok { ReadsAtMost result buf.new }
     ensures err { OnErr result (length buf.new ≡ length buf.old) }
 {
     let length = rt.arg(i, buf).unwrap_or(0);
-    text(out, &buf[..length])?;
-    text(out, b" ")?;
+    out.write_all(&buf[..length])?;
+    out.write_all(b" ")?;
     Ok(length)
 }
 
@@ -75,24 +60,12 @@ pub fn file<R: Env + Files, W: Write>(
     read(rt, &path[..length], buf)
 }
 
-fn digit(b: u8) -> u64
-    ensures { result < 256 }
-{
-    if b < b'0' {
-        return 0;
-    }
-    b as u64 - 48
-}
-
 // A number in decimal, modulo 2^32.
 fn value_of(s: &[u8]) -> u32 {
-    let mut n: u64 = 0;
-    let mut i = 0;
-    while i < s.len() {
-        n = (10 * n + digit(s[i])) % 4294967296;
-        i += 1;
-    }
-    n as u32
+    s.iter().fold(0, |n: u32, b| {
+        n.wrapping_mul(10)
+            .wrapping_add(b.saturating_sub(b'0') as u32)
+    })
 }
 
 // Argument i is a number.
@@ -106,8 +79,5 @@ pub fn decimal<R: Env, W: Write>(rt: &R, out: &mut W, i: usize) -> io::Result<u3
 pub fn letter<R: Env, W: Write>(rt: &R, out: &mut W, i: usize) -> io::Result<u8> {
     let mut name = [0u8; SMALL];
     let length = word(rt, out, i, &mut name)?;
-    if length == 0 {
-        return Ok(0);
-    }
-    Ok(name[0])
+    Ok(name[..length].first().copied().unwrap_or(0))
 }

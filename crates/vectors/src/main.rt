@@ -38,6 +38,7 @@ fn vector<R: Env + Files, W: Write>(rt: &R, out: &mut W, i: usize) -> io::Result
 fn main(rt: HostRuntime) -> io::Result<()> {
     let mut out = rt.stdout();
     let mut i = 1;
+    // no `for`: how many arguments a vector takes shows only at its call
     while i < 65536 && given::is_given(&rt, i) {
         i = vector(&rt, &mut out, i)?;
     }

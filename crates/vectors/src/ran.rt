@@ -1,46 +1,38 @@
 // Vectors of the plain run: four arguments, the file of the text, the file of the inputs, the steps, and the length of the buffer lent for
 // the answer.
-ghost use Rattle.std.specs.Prelude.{◌<◌, ◌≡◌, length};
+ghost use Rattle.std.specs.Prelude.{◌<◌};
 
 use crate::given::{LARGE, SMALL, decimal, file};
 use gil::layout::ANSWER_BYTES;
 use std::io;
 use std::io::Write;
 use std::rt::{Env, Files};
-use vectors_shown::bytes::{FILLED, kept, number, text};
-use vectors_shown::rows::row;
+use vectors_shown::bytes::{filled, kept};
+use vectors_shown::rows::Row;
 
 // What the buffer holds after the call; before it was filled.
 fn answered<W: Write>(out: &mut W, code: u32, answer: &[u8]) -> io::Result<()> {
-    text(out, b"= ")?;
-    number(out, code)?;
-    text(out, b" ")?;
-    if code == 0 {
-        row(out, answer, 0)?;
-        if !kept(answer, ANSWER_BYTES) {
-            text(out, b", surplus CHANGED")?;
-        }
-    } else if kept(answer, 0) {
-        text(out, b"untouched")?;
-    } else {
-        text(out, b"TOUCHED")?;
+    if code != 0 {
+        let touched = if kept(answer, 0) {
+            "untouched"
+        } else {
+            "TOUCHED"
+        };
+        return writeln!(out, "= {code} {touched}");
     }
-    text(out, b"\n")
-}
-
-// A buffer, filled; the `ensures` gives the length, which lending it as a slice needs.
-fn filled() -> [u8; 2048]
-    ensures { 2048 ≡ length result }
-{
-    [FILLED; 2048]
+    write!(out, "= {code} {}", Row(answer))?;
+    if !kept(answer, ANSWER_BYTES) {
+        write!(out, ", surplus CHANGED")?;
+    }
+    writeln!(out)
 }
 
 // The call with the first bytes of a buffer lent.
 fn call(program: &[u8], inputs: &[u8], steps: u32, length: usize, buffer: &mut [u8]) -> u32 {
-    if buffer.len() < length {
+    let Some(lent) = buffer.get_mut(..length) else {
         return 0;
-    }
-    bench::chomphurek_plain_run(program, inputs, steps, &mut buffer[..length])
+    };
+    bench::chomphurek_plain_run(program, inputs, steps, lent)
 }
 
 fn run<W: Write>(
@@ -50,7 +42,7 @@ fn run<W: Write>(
     steps: u32,
     length: usize,
 ) -> io::Result<()> {
-    let mut answer = filled();
+    let mut answer = filled::<2048>();
     let code = call(program, inputs, steps, length, &mut answer);
     answered(out, code, &answer)
 }

@@ -1,43 +1,23 @@
-// Text and numbers on a writer, and what is known of a part of lent memory.
-use std::io;
-use std::io::Write;
+// Buffers that are lent, and what is known of a part of one.
+ghost use Rattle.std.specs.Prelude.{◌≡◌, length};
 
 // The byte that fills a buffer before it is lent.
-pub const FILLED: u8 = 165;
+const FILLED: u8 = 165;
 
-pub fn text<W: Write>(out: &mut W, s: &[u8]) -> io::Result<()> {
-    out.write_all(s)
-}
-
-pub fn number<W: Write>(out: &mut W, n: u32) -> io::Result<()> {
-    write!(out, "{n}")
-}
-
-// A number after some text.
-pub fn named<W: Write>(out: &mut W, before: &[u8], n: u32) -> io::Result<()> {
-    text(out, before)?;
-    number(out, n)
+// A buffer, filled; the `ensures` gives the length, which lending it as a slice needs.
+pub fn filled<const N: usize>() -> [u8; N]
+    ensures { N ≡ length result }
+{
+    [FILLED; N]
 }
 
 // Whether every byte from a place on is as before the call.
 pub fn kept(b: &[u8], from: usize) -> bool {
-    for i in from..b.len() {
-        if b[i] != FILLED {
-            return false;
-        }
-    }
-    true
+    b.iter().skip(from).all(|x| *x == FILLED)
 }
 
-// Whether the bytes from one place to another are all zero.
+// Whether the bytes from one place to another are there, and all zero.
 pub fn zero(b: &[u8], from: usize, to: usize) -> bool {
-    if b.len() < to {
-        return false;
-    }
-    for i in from..to {
-        if b[i] != 0 {
-            return false;
-        }
-    }
-    true
+    b.get(from..to)
+        .is_some_and(|part| part.iter().all(|x| *x == 0))
 }

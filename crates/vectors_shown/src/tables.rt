@@ -1,152 +1,86 @@
 // A table and its pool: a row a line, a term a line. Of more than 20 rows or 40 terms the first two and the last two are shown; all of
 // them are looked at for words that hold nothing.
-ghost use Rattle.std.specs.Prelude.{◌≤◌, ◌<◌};
+ghost use Rattle.std.specs.Prelude.{◌≤◌};
 
-use crate::bytes::{named, text, zero};
-use crate::rows::{rest_zero, row, value_at, word};
+use crate::bytes::zero;
+use crate::rows::Row;
+use crate::values::Term;
 use gil::layout::{HEADING_BYTES, POOL_BYTES, ROW_BYTES, TABLE_BYTES, TERM_BYTES};
 use gil::limits::{MOST_ROWS, MOST_TERMS};
-use gil::numbers;
-use lent_words::at_most;
+use lent_words::word_at;
 use std::io;
 use std::io::Write;
 
-const HEADING: u32 = HEADING_BYTES as u32;
-
-const ROW: u32 = ROW_BYTES as u32;
-
-const TERM: u32 = TERM_BYTES as u32;
-
 // Whether the i-th of n is shown.
-fn is_shown(i: u32, n: u32, most: u32) -> bool
-    requires { i < n }
-{
-    if n <= most {
-        return true;
+fn is_shown(i: usize, n: usize, most: usize) -> bool {
+    n <= most || i < 2 || n.saturating_sub(2) <= i
+}
+
+// A table and its pool, as they were lent.
+#[derive(Clone, Copy)]
+pub struct Table<'a> {
+    pub table: &'a [u8],
+    pub pool: &'a [u8],
+}
+
+impl<'a> Table<'a> {
+    // How many rows and terms there are, and never more than there may be.
+    fn row_count(&self) -> usize
+        ensures { result ≤ 64 }
+    {
+        word_at(self.table, 0).min(MOST_ROWS) as usize
     }
-    if i < 2 {
-        return true;
+
+    fn term_count(&self) -> usize
+        ensures { result ≤ 2048 }
+    {
+        word_at(self.table, 4).min(MOST_TERMS) as usize
     }
-    n - 2 <= i
-}
 
-// The first byte of row i.
-fn row_at(i: u32) -> u32
-    requires { i < 64 }
-{
-    HEADING + ROW * i
-}
+    // The bytes after the heading.
+    fn rows(&self) -> &'a [u8] {
+        self.table.get(HEADING_BYTES..).unwrap_or(&[])
+    }
 
-fn row_line<W: Write>(out: &mut W, table: &[u8], i: u32) -> io::Result<()>
-    requires { i < 64 }
-{
-    named(out, b"  row ", i)?;
-    text(out, b": ")?;
-    row(out, table, row_at(i))?;
-    text(out, b"\n")
-}
+    // Whether every word of heading, rows and pool that holds nothing is zero.
+    fn rest_zero(&self) -> bool {
+        let rows = self.row_count();
+        let terms = self.term_count();
+        zero(self.table, 8, HEADING_BYTES)
+            && self
+                .rows()
+                .chunks_exact(ROW_BYTES)
+                .take(rows)
+                .all(|b| Row(b).rest_zero())
+            && zero(self.table, HEADING_BYTES + ROW_BYTES * rows, TABLE_BYTES)
+            && zero(self.pool, TERM_BYTES * terms, POOL_BYTES)
+    }
 
-fn rows<W: Write>(out: &mut W, table: &[u8], n: u32) -> io::Result<()>
-    requires { n ≤ 64 }
-{
-    for i in 0..n {
-        if is_shown(i, n, 20) {
-            row_line(out, table, i)?;
+    // How many rows and terms there are.
+    pub fn put_counts<W: Write>(&self, out: &mut W) -> io::Result<()> {
+        let rows = word_at(self.table, 0);
+        let terms = word_at(self.table, 4);
+        write!(out, ", rows {rows}, terms {terms}")?;
+        if !self.rest_zero() {
+            write!(out, ", NOT ZERO where it holds nothing")?;
         }
+        Ok(())
     }
-    Ok(())
-}
 
-// What a term is, by a sign: an input, `not`, `and` and `or` by #, !, & and |.
-fn sign(kind: u32) -> u8 {
-    match kind {
-        numbers::INPUT_KIND => b'#',
-        numbers::NOT_KIND => b'!',
-        numbers::PLUS_KIND => b'+',
-        numbers::MINUS_KIND => b'-',
-        numbers::EQUAL_KIND => b'=',
-        numbers::LESS_KIND => b'<',
-        numbers::AND_KIND => b'&',
-        numbers::OR_KIND => b'|',
-        _ => b'?',
-    }
-}
-
-// A term: what it is, and its operands as values.
-fn term_line<W: Write>(out: &mut W, pool: &[u8], i: u32) -> io::Result<()>
-    requires { i < 2048 }
-{
-    let at = TERM * i;
-    named(out, b"  term ", i)?;
-    text(out, &[b':', b' ', sign(word(pool, at, 0))])?;
-    value_at(out, b" ", pool, at, 1)?;
-    value_at(out, b" ", pool, at, 3)?;
-    text(out, b"\n")
-}
-
-fn terms<W: Write>(out: &mut W, pool: &[u8], n: u32) -> io::Result<()>
-    requires { n ≤ 2048 }
-{
-    for i in 0..n {
-        if is_shown(i, n, 40) {
-            term_line(out, pool, i)?;
+    // The rows and the terms.
+    pub fn put_lines<W: Write>(&self, out: &mut W) -> io::Result<()> {
+        let rows = self.row_count();
+        for (i, b) in self.rows().chunks_exact(ROW_BYTES).take(rows).enumerate() {
+            if is_shown(i, rows, 20) {
+                writeln!(out, "  row {i}: {}", Row(b))?;
+            }
         }
-    }
-    Ok(())
-}
-
-// Whether in each of the first n rows every word that holds nothing is zero.
-fn rows_rest_zero(table: &[u8], n: u32) -> bool
-    requires { n ≤ 64 }
-{
-    for i in 0..n {
-        if !rest_zero(table, row_at(i)) {
-            return false;
+        let terms = self.term_count();
+        for (i, b) in self.pool.chunks_exact(TERM_BYTES).take(terms).enumerate() {
+            if is_shown(i, terms, 40) {
+                writeln!(out, "  term {i}: {}", Term(b))?;
+            }
         }
+        Ok(())
     }
-    true
-}
-
-// The same of heading, rows and pool.
-fn all_rest_zero(table: &[u8], pool: &[u8], rows: u32, terms: u32) -> bool
-    requires rows_bound { rows ≤ 64 }
-    requires terms_bound { terms ≤ 2048 }
-{
-    if !zero(table, 8, HEADING_BYTES) {
-        return false;
-    }
-    if !rows_rest_zero(table, rows) {
-        return false;
-    }
-    if !zero(
-        table,
-        HEADING_BYTES + ROW_BYTES * (rows as usize),
-        TABLE_BYTES,
-    ) {
-        return false;
-    }
-    zero(pool, TERM_BYTES * (terms as usize), POOL_BYTES)
-}
-
-// How many rows and terms there are.
-pub fn counts<W: Write>(out: &mut W, table: &[u8], pool: &[u8]) -> io::Result<()> {
-    let rows = word(table, 0, 0);
-    let terms = word(table, 0, 1);
-    named(out, b", rows ", rows)?;
-    named(out, b", terms ", terms)?;
-    if !all_rest_zero(
-        table,
-        pool,
-        at_most(MOST_ROWS, rows),
-        at_most(MOST_TERMS, terms),
-    ) {
-        text(out, b", NOT ZERO where it holds nothing")?;
-    }
-    Ok(())
-}
-
-// The rows and the terms.
-pub fn table<W: Write>(out: &mut W, table: &[u8], pool: &[u8]) -> io::Result<()> {
-    rows(out, table, at_most(MOST_ROWS, word(table, 0, 0)))?;
-    terms(out, pool, at_most(MOST_TERMS, word(table, 0, 1)))
 }

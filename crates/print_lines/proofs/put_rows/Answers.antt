@@ -1,12 +1,15 @@
--- `printing::put_rows` meets its contract. Assumes nothing.
-use native.Mathlib.Omega.{arith}
-use mathlib.Core.Path.{refl, ◌∙◌}
+-- `put_rows` meets its contract. Assumes nothing.
 use Rattle.print_parts.specs.Laws.{rows_more, runs_none}
 use Rattle.print_lines.specs.Mirror.{row_form}
 use Rattle.print_lines.proofs.put_rows.Goals as goal
 
-pub loop-row-init : goal.loop-row-init
-loop-row-init c = (omega arith, refl, runs_none _ _ _ _)
+pub loop-number-init : goal.loop-number-init
+loop-number-init c = runs_none _ _ _
 
-pub loop-row-preserved : goal.loop-row-preserved
-loop-row-preserved c = (omega arith, c.put_row-place.auto.out ∙ c.loop-row.invariant.1, rows_more (row_form c.args.text.now c.args.names.now c.args.table.now c.args.pool.now c.args.sizes.now) c.loop-row.row c.loop-row.invariant.2 c.put_row-place.ensures)
+pub loop-number-preserved : goal.loop-number-preserved
+loop-number-preserved c =
+    rows_more
+    (row_form c.args.named.now.text.now c.args.named.now.names.now c.args.table.now c.args.fields.now.pool.now c.args.fields.now.sizes)
+    c.loop-number.number
+    c.loop-number.invariant
+    c.put_row.ensures

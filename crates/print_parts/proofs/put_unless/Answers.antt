@@ -1,7 +1,7 @@
--- `parts::put_unless` meets its contract. Assumes nothing.
-use borrow.Author.Tests.{ne_eqb}
+-- `put_unless` meets its contract. Assumes nothing.
+use Rattle.std.proofs.Common.{ne_eqb}
 use Rattle.gil.specs.Text.{bytes}
-use Rattle.print_writing.specs.Laws.{wrote_none}
+use Rattle.print_writing.specs.Laws.{write_none}
 use Rattle.print_parts.specs.Mirror.{unless_form}
 use Rattle.print_parts.proofs.put_unless.Goals as goal
 
@@ -9,6 +9,6 @@ pub returns-then-truth-eq0 : goal.returns-then-truth-eq0
 unfolding unless_form bytes
 returns-then-truth-eq0 c = rw c.if-truth-eq0.true c.put_all.ensures
 
-pub returns : goal.returns
+pub returns-else-truth-eq0 : goal.returns-else-truth-eq0
 unfolding unless_form
-returns c = simp (ne_eqb _ _ c.if-truth-eq0.false) (wrote_none _ _)
+returns-else-truth-eq0 c = simp (ne_eqb _ _ c.if-truth-eq0.false) (write_none _)

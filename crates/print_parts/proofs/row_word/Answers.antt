@@ -1,7 +1,0 @@
--- `parts::row_word` meets its contract. Assumes nothing.
-use Rattle.print_parts.specs.Mirror.{row_word}
-use Rattle.print_parts.proofs.row_word.Goals as goal
-
-pub returns : goal.returns
-unfolding row_word
-returns c = c.word_at.ensures
