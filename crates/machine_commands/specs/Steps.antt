@@ -1,18 +1,13 @@
 -- Laws of the store's words. Assumes nothing.
-use Rattle.std.specs.Prelude.{refl, ◌⊎◌, Result, Ok, Err, ◌≡◌, ℕ, suc, ◌+◌, ◌-◌, ◌*◌, ◌<◌, ◌≤◌, List, ◌≢◌}
+use Rattle.std.specs.Prelude.{refl, ◌⊎◌, Result, Ok, Err, ◌≡◌, ℕ, suc, ◌+◌, ◌-◌, ◌<◌, ◌≤◌, List}
 use Rattle.std.specs.Result.{result_unwrap_or}
-use Rattle.std.proofs.Common.{inl, inr, ◌∙◌, ap, ap₂, arith, ne_eqb}
-use Rattle.std.proofs.lemmas.Bool.{lt-leb}
-use Rattle.gil.specs.Numbers.{most_variables}
-use Rattle.machine_code.specs.Code.{frame_words, returns_at}
+use Rattle.std.proofs.Common.{inl, inr, ◌∙◌, ap, arith, ne_eqb}
 use Rattle.gil.specs.declared.Unknown.{Unknown}
 use Rattle.machine_code.specs.Code.{vanish_kind}
 use Rattle.machine_code.specs.Kinds.{command_number, IsCommandOf}
 use Rattle.machine_code.specs.declared.kinds.CommandKind.{CommandKind}
 use Rattle.machine_code.specs.declared.kinds.CommandKind.TheVariants.{Assign, Jump, Call, Lookup, Mutate, Dispose, USym, ISym, Return, Fail, Vanish}
-use Rattle.machine_commands.specs.declared.Control.{Control}
-use Rattle.machine_commands.specs.declared.Next.TheVariants.{On}
-use Rattle.machine_commands.specs.Mirror.{kind_of, moved_in, put_in, word_in, zeros_in, frame_in, acted, enter_in, leave_in}
+use Rattle.machine_commands.specs.Mirror.{kind_of, put_in, zeros_in}
 
 -- sixteen words zeroed one after the other
 pub zeros-more : (i base : ℕ) (store : List ℕ) → i < 16
