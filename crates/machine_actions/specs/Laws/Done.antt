@@ -1,7 +1,6 @@
 -- An action asked and then done on the cells, or the error that came before: it is Changed's `lookup_in` and `change_in`. Assumes nothing.
-use Rattle.std.specs.Prelude.{ℕ, ◌/◌, ◌%◌, Bool, true, false, ◌≡◌, ◌<◌, ◌≤◌, ◌||◌, refl, List, length, Option, Result, Ok, Err, ltb, eqb}
-use Rattle.std.proofs.Common.{◌∙◌, ap, arith, ne_eqb, eqb-true}
-use Rattle.std.proofs.lemmas.Bool.Decides.{nat_tests}
+use Rattle.std.specs.Prelude.{ℕ, ◌/◌, ◌%◌, Bool, true, false, ◌≡◌, refl, List, length, Option, Result, Ok, Err, ltb, eqb}
+use Rattle.std.proofs.Common.{◌∙◌}
 use Rattle.gil.specs.Numbers.{most_cells, location_tag}
 use Rattle.gil.specs.Values.{term}
 use Rattle.gil.specs.Machine as Machine

@@ -3,7 +3,7 @@
 -- is taken. Assumes nothing.
 use Rattle.std.specs.Prelude.{ℕ, ◌+◌, ◌<◌, ◌≤◌, Bool, true, false, ◌≡◌, refl, List, [], ◌++◌, length, get_or, drop, ltb}
 use Rattle.std.proofs.Common.{◌∙◌, sym, ap, ap₂, subst, arith, drop-drop, ltb-true, ltb-false}
-use mathlib.Core.List.{append_assoc}
+use Rattle.std.proofs.lemmas.List.{append_assoc}
 use Rattle.std.proofs.Math.ListN.{get_or-eq_default}
 use Rattle.std.proofs.Math.Seq.{drop-append_seam}
 use Rattle.gil.specs.Numbers.{most_variables, most_frames}
