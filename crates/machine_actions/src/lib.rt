@@ -11,7 +11,7 @@ ghost use Rattle.machine_actions.specs.Laws.Changed.{changed, engine_in};
 
 use gil::errors::Error;
 use gil::limits::MOST_INPUTS;
-use gil::numbers;
+use gil::tags::Tag;
 use machine_cells::{Ask, Memory};
 use machine_code::kinds::CommandKind;
 use machine_code::{CODE_WORDS, STORE_WORDS};
@@ -25,7 +25,7 @@ use machine_values::Location;
 fn located(v: u64) -> Result<Location, Error>
     ensures { result ≡ located_in v }
 {
-    if values::tag(v) == numbers::LOCATION_TAG {
+    if values::tag(v) == Tag::Location as u32 {
         Ok(Location(values::word(v)))
     } else {
         Err(Error::WrongSort)

@@ -13,7 +13,7 @@ ghost use Rattle.machine_commands.specs.Mirror.{moved_in, with_location_in, with
 
 use gil::errors::Error;
 use gil::limits::{MOST_FRAMES, MOST_INPUTS, MOST_LOCATIONS, MOST_VARIABLES};
-use gil::numbers;
+use gil::tags::Tag;
 use machine_code::kinds::CommandKind;
 use machine_code::{
     CODE_WORDS, COMMAND_WORDS, COMMANDS_AT, FRAME_WORDS, PROCEDURE_WORDS, RETURNS_AT, STORE_WORDS,
@@ -194,13 +194,13 @@ fn jump(c: Control, n: u32, v: u64) -> Next
     ensures { result ≡ jump_in c n v }
 {
     let tag = values::tag(v);
-    if tag == numbers::BOOLEAN_TAG {
+    if tag == Tag::Boolean as u32 {
         if values::word(v) == 0 {
             return Next::On(onward(c));
         }
         return Next::On(goto(c, n));
     }
-    if tag == numbers::BOOLEAN_TERM_TAG {
+    if tag == Tag::BooleanTerm as u32 {
         return Next::Fork(values::word(v), goto(c, n), onward(c));
     }
     Next::Error(Error::WrongSort)

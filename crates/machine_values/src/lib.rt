@@ -8,7 +8,7 @@
 ghost use Rattle.std.specs.Prelude.{◌≡◌, ◌+◌, ◌/◌, ◌%◌};
 ghost use Rattle.machine_values.specs.Mirror.{truth_word, sort_word, needed_word, fit_in, both_word, either_word, work_word};
 
-use gil::numbers::{BOOLEAN_TAG, LOCATION_TAG, NUMBER_TAG};
+use gil::tags::Tag;
 use machine_code::{AND_NODE, EQUAL_NODE, LESS_NODE, MINUS_NODE, PLUS_NODE};
 
 // "Uninterpreted symbols and interpreted ones are never confused": the number of a location, and that of an input
@@ -66,8 +66,8 @@ pub fn sort(v: u64) -> u32
     ensures { result ≡ sort_word v }
 {
     let t = tag(v);
-    if LOCATION_TAG < t {
-        t - LOCATION_TAG
+    if t > Tag::Location as u32 {
+        t - Tag::Location as u32
     } else {
         t
     }
@@ -79,9 +79,9 @@ pub fn needed(kind: u32) -> u32
     ensures { result ≡ needed_word kind }
 {
     if kind < AND_NODE {
-        NUMBER_TAG
+        Tag::Number as u32
     } else {
-        BOOLEAN_TAG
+        Tag::Boolean as u32
     }
 }
 
