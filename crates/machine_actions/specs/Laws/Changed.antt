@@ -14,6 +14,7 @@ use Rattle.machine_code.specs.Mirror.{if?}
 use Rattle.machine_terms.specs.Mirror.{Did}
 use Rattle.machine_evaluate.specs.Mirror.{by_result, evaluate_in}
 use Rattle.machine_cells.specs.Laws.Served.{looked_in}
+pub use Rattle.machine_cells.specs.Laws.Served.{put-length}
 use Rattle.machine_commands.specs.declared.Control.{Control}
 use Rattle.machine_commands.specs.declared.Command.{Command}
 use Rattle.machine_commands.specs.declared.Next.TheVariants.{Error}
@@ -75,18 +76,3 @@ unfoldable pub engine_in : List ℕ → Control → Command → Option (List ℕ
 engine_in code c m known ds store pool count =
     by_kind m.kind (of_after (lookup_in code c m ds store pool count) ds) (mutate_in code c m ds store pool count) (dispose_in code c m ds store pool count)
     (of_after (step_in code c m known store pool count) ds)
-
--- how many cells there are after a put does not depend on the value
-module _ {T : Type 0} (l q : ℕ) (u v : Value T) where
-  put_lengths : (c : Machine.Cell T) (cs : List (Machine.Cell T)) (a b : Bool) → is_at l q c ≡ a → is_before l q c ≡ b
-      → length (put_cell l q u cs) ≡ length (put_cell l q v cs)
-      → length (put_cell l q u (c ∷ cs)) ≡ length (put_cell l q v (c ∷ cs))
-  unfolding put_cell
-  put_lengths c cs true b e f h = simp (e, put_cell)
-  put_lengths c cs false true e f h = simp (e, f, put_cell)
-  put_lengths c cs false false e f h = simp (e, f, put_cell) (ap suc h)
-
-  pub put-length : (cs : List (Machine.Cell T)) → length (put_cell l q u cs) ≡ length (put_cell l q v cs)
-  unfolding put_cell
-  put-length [] = refl
-  put-length (c ∷ cs) = put_lengths c cs (is_at l q c) (is_before l q c) refl refl (put-length cs)
