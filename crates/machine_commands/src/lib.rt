@@ -8,14 +8,15 @@
 ghost use Rattle.std.specs.Prelude.{◌≡◌, ◌<◌};
 ghost use Rattle.gil.specs.Numbers.{most_variables, most_inputs, most_locations};
 ghost use Rattle.machine_terms.specs.Mirror.{did};
-ghost use Rattle.machine_terms.specs.Laws.Engine.{fresh_in};
-ghost use Rattle.machine_commands.specs.Mirror.{moved_in, with_location_in, with_input_in, locate_in, after, receive_in, act_in, step_in, start_in, start_store, goto_in, onward_in, put_in, word_in, zeros_in, vanish_command, command_in, fetch_in, acted, assign_in, jump_in, enter_in, leave_in};
+ghost use Rattle.machine_terms.specs.Laws.Engine.{fresh_in, known_in};
+ghost use Rattle.machine_commands.specs.Mirror.{moved_in, with_location_in, with_input_in, locate_in, after, receive_in, act_in, step_in, start_in, start_store, goto_in, onward_in, put_in, word_in, zeros_in, vanish_command, kind_of, command_in, fetch_in, acted, assign_in, jump_in, enter_in, leave_in};
 
+use gil::errors::Error;
 use gil::limits::{MOST_FRAMES, MOST_INPUTS, MOST_LOCATIONS, MOST_VARIABLES};
-use gil::numbers;
+use gil::tags::Tag;
+use machine_code::kinds::CommandKind;
 use machine_code::{
-    ASSIGN_KIND, CALL_KIND, CODE_WORDS, COMMAND_WORDS, COMMANDS_AT, FRAME_WORDS, ISYM_KIND,
-    JUMP_KIND, PROCEDURE_WORDS, RETURN_KIND, RETURNS_AT, STORE_WORDS, USYM_KIND, VANISH_KIND,
+    CODE_WORDS, COMMAND_WORDS, COMMANDS_AT, FRAME_WORDS, PROCEDURE_WORDS, RETURNS_AT, STORE_WORDS,
     code_word,
 };
 use machine_evaluate as evaluate;
@@ -36,10 +37,10 @@ pub struct Control {
     pub command: u32,
 }
 
-// A command's five words (crates/machine_code)
+// A command's five words (crates/machine_code), the first of them as its kind
 #[derive(Clone, Copy)]
 pub struct Command {
-    pub kind: u32,
+    pub kind: CommandKind,
     pub target: u32,
     pub first: u32,
     pub other: u32,
@@ -54,36 +55,37 @@ pub enum Next {
     Returned(u32, u32),
     Failed(u32, u32),
     Vanished,
-    Error(u32),
+    Error(Error),
     Fork(u32, Control, Control),
 }
 
 fn moved(c: Control, frame: u32, procedure: u32, command: u32) -> Control
     ensures { result ≡ moved_in c frame procedure command }
 {
-    let inputs = c.inputs;
-    let locations = c.locations;
     Control {
         frame,
         procedure,
         command,
-        inputs,
-        locations,
+        ..c
     }
 }
 
+#[tactic(auto, unfolding(crate::specs::Mirror::goto_in))]
 fn goto(c: Control, n: u32) -> Control
     ensures { result ≡ goto_in n c }
 {
     moved(c, c.frame, c.procedure, n)
 }
 
+#[tactic(auto, unfolding(crate::specs::Mirror::onward_in))]
 fn onward(c: Control) -> Control
     ensures { result ≡ onward_in c }
 {
     goto(c, std::num::wrapping_add_u32(c.command, 1))
 }
 
+// Not by `get_mut`, after which a proof does not know the words.
+#[tactic(auto, unfolding(crate::specs::Mirror::put_in))]
 fn put(store: &mut [u64; STORE_WORDS], at: usize, v: u64)
     ensures { store.new ≡ put_in at v store.old }
 {
@@ -92,17 +94,18 @@ fn put(store: &mut [u64; STORE_WORDS], at: usize, v: u64)
     }
 }
 
+#[tactic(auto, unfolding(crate::specs::Mirror::word_in))]
 fn word(store: &[u64; STORE_WORDS], at: usize) -> u32
     ensures { result ≡ word_in at store.now }
 {
-    if at < STORE_WORDS {
-        values::word(store[at])
-    } else {
-        0
+    match store.get(at) {
+        Some(&v) => values::word(v),
+        None => 0,
     }
 }
 
 // "`main` starts with its parameter at 0": where a path begins, and its store
+#[tactic(auto, unfolding(crate::specs::Mirror::start_in))]
 pub fn start(code: &[u32; CODE_WORDS]) -> Control
     ensures { result ≡ start_in code.now }
 {
@@ -115,6 +118,7 @@ pub fn start(code: &[u32; CODE_WORDS]) -> Control
     }
 }
 
+#[tactic(auto, unfolding(crate::specs::Mirror::start_store))]
 pub fn start_store() -> [u64; STORE_WORDS]
     ensures { result ≡ start_store }
 {
@@ -127,7 +131,7 @@ fn vanish() -> Command
     ensures { result ≡ vanish_command }
 {
     Command {
-        kind: VANISH_KIND,
+        kind: CommandKind::Vanish,
         target: 0,
         first: 0,
         other: 0,
@@ -135,12 +139,20 @@ fn vanish() -> Command
     }
 }
 
+// A word that is no command's kind, which no accepted program has, is read as that of `fail`.
+fn kind(word: u32) -> CommandKind
+    ensures { result ≡ kind_of word }
+{
+    CommandKind::try_from(word).unwrap_or(CommandKind::Fail)
+}
+
+#[tactic(auto, unfolding(crate::specs::Mirror::command_in))]
 fn command_at(code: &[u32; CODE_WORDS], at: usize) -> Command
     ensures { result ≡ command_in code.now at }
 {
     if at < CODE_WORDS - 4 {
         Command {
-            kind: code[at],
+            kind: kind(code[at]),
             target: code[at + 1],
             first: code[at + 2],
             other: code[at + 3],
@@ -152,6 +164,7 @@ fn command_at(code: &[u32; CODE_WORDS], at: usize) -> Command
 }
 
 // The next command; `vanish` past the end of the procedure
+#[tactic(auto, unfolding(crate::specs::Mirror::fetch_in))]
 pub fn fetch(code: &[u32; CODE_WORDS], c: Control) -> Command
     ensures { result ≡ fetch_in code.now c.procedure c.command }
 {
@@ -167,6 +180,7 @@ pub fn fetch(code: &[u32; CODE_WORDS], c: Control) -> Command
     vanish()
 }
 
+#[tactic(auto, unfolding(crate::specs::Mirror::assign_in))]
 pub fn assign(c: Control, x: u32, v: u64, store: &mut [u64; STORE_WORDS]) -> Next
     ensures { acted result store.new ≡ assign_in c x v store.old }
 {
@@ -175,39 +189,39 @@ pub fn assign(c: Control, x: u32, v: u64, store: &mut [u64; STORE_WORDS]) -> Nex
 }
 
 // "`ifgoto` on true goes to n, on false to the next command"; a number term is error 2
+#[tactic(auto, unfolding(crate::specs::Mirror::jump_in))]
 fn jump(c: Control, n: u32, v: u64) -> Next
     ensures { result ≡ jump_in c n v }
 {
     let tag = values::tag(v);
-    if tag == numbers::BOOLEAN_TAG {
+    if tag == Tag::Boolean as u32 {
         if values::word(v) == 0 {
             return Next::On(onward(c));
         }
         return Next::On(goto(c, n));
     }
-    if tag == numbers::BOOLEAN_TERM_TAG {
+    if tag == Tag::BooleanTerm as u32 {
         return Next::Fork(values::word(v), goto(c, n), onward(c));
     }
-    Next::Error(numbers::WRONG_SORT)
+    Next::Error(Error::WrongSort)
 }
 
 fn clear(store: &mut [u64; STORE_WORDS], base: usize)
     requires { base < 100000000000 }
     ensures { store.new ≡ zeros_in most_variables base store.old }
 {
-    let mut i: usize = 0;
-    while i < MOST_VARIABLES {
+    for i in 0..MOST_VARIABLES {
         put(store, base + i, 0);
-        i += 1;
     }
 }
 
 // "A call .. opens a frame in which only the parameter is bound"
+#[tactic(auto, unfolding(crate::specs::Mirror::enter_in, crate::specs::Mirror::frame_in))]
 fn enter(c: Control, x: u32, f: u32, v: u64, store: &mut [u64; STORE_WORDS]) -> Next
     ensures { acted result store.new ≡ enter_in c x f v store.old }
 {
     if LAST_FRAME <= c.frame {
-        return Next::Error(numbers::NINTH_FRAME);
+        return Next::Error(Error::NinthFrame);
     }
     let base = FRAME_WORDS * (c.frame as usize + 1);
     clear(store, base);
@@ -219,6 +233,7 @@ fn enter(c: Control, x: u32, f: u32, v: u64, store: &mut [u64; STORE_WORDS]) -> 
 }
 
 // "return in the first frame ends the run, in any other it assigns to the caller's variable and goes on after the call"
+#[tactic(auto, unfolding(crate::specs::Mirror::leave_in))]
 fn leave(c: Control, v: u64, store: &mut [u64; STORE_WORDS]) -> Next
     ensures { acted result store.new ≡ leave_in c v store.old }
 {
@@ -237,13 +252,9 @@ fn with_location(c: Control) -> Control
     requires { c.locations.0 < most_locations }
     ensures { result ≡ with_location_in c }
 {
-    let inputs = c.inputs;
     Control {
-        frame: c.frame,
-        procedure: c.procedure,
-        command: c.command,
-        inputs,
         locations: Location(c.locations.0 + 1),
+        ..c
     }
 }
 
@@ -251,102 +262,93 @@ fn with_input(c: Control) -> Control
     requires { c.inputs.0 < most_inputs }
     ensures { result ≡ with_input_in c }
 {
-    let locations = c.locations;
     Control {
-        frame: c.frame,
-        procedure: c.procedure,
-        command: c.command,
         inputs: Input(c.inputs.0 + 1),
-        locations,
+        ..c
     }
 }
 
 // "`uSym` gives the next location of this path"
+#[tactic(auto, unfolding(crate::specs::Mirror::locate_in))]
 fn locate(c: Control, x: u32, store: &mut [u64; STORE_WORDS]) -> Next
     ensures { acted result store.new ≡ locate_in c x store.old }
 {
     if MOST_LOCATIONS <= c.locations.0 {
-        return Next::Error(numbers::SEVENTEENTH_LOCATION);
+        return Next::Error(Error::SeventeenthLocation);
     }
     let l = c.locations;
     assign(with_location(c), x, values::located(l), store)
 }
 
+#[tactic(auto, unfolding(machine_terms::specs::Laws::Engine::fresh_in))]
 fn input(
-    known: bool,
-    inputs: &[u32; MOST_INPUTS as usize],
+    known: Option<&[u32; MOST_INPUTS as usize]>,
     i: Input,
     pool: &mut [u8],
     count: &mut u32,
 ) -> u64
     requires { i.0 < most_inputs }
-    ensures { did result pool.new count.new ≡ fresh_in known inputs.now i.0 pool.old count.old }
+    ensures { did result pool.new count.new ≡ fresh_in (known_in known.entry) i.0 pool.old count.old }
 {
-    if known {
-        let k = i.0 as usize;
-        return values::number(inputs[k]);
+    match known {
+        Some(inputs) => values::number(inputs[i.0 as usize]),
+        None => terms::input(pool, count, i),
     }
-    terms::input(pool, count, i)
 }
 
 // "`iSym` the next input": known, or a term
+#[tactic(auto, unfolding(crate::specs::Mirror::receive_in))]
 fn receive(
     c: Control,
     x: u32,
-    known: bool,
-    inputs: &[u32; MOST_INPUTS as usize],
+    known: Option<&[u32; MOST_INPUTS as usize]>,
     store: &mut [u64; STORE_WORDS],
     pool: &mut [u8],
     count: &mut u32,
 ) -> Next
-    ensures { after result store.new pool.new count.new ≡ receive_in c x known inputs.now store.old pool.old count.old }
+    ensures { after result store.new pool.new count.new ≡ receive_in c x (known_in known.entry) store.old pool.old count.old }
 {
     if MOST_INPUTS <= c.inputs.0 {
-        return Next::Error(numbers::SEVENTEENTH_INPUT);
+        return Next::Error(Error::SeventeenthInput);
     }
-    let i = c.inputs;
-    let v = input(known, inputs, i, pool, count);
+    let v = input(known, c.inputs, pool, count);
     assign(with_input(c), x, v, store)
 }
 
 // A command whose expression has the value v
+#[tactic(auto, unfolding(crate::specs::Mirror::act_in))]
 fn act(c: Control, m: Command, v: u64, store: &mut [u64; STORE_WORDS]) -> Next
     ensures { acted result store.new ≡ act_in c m v store.old }
 {
-    let kind = m.kind;
-    match kind {
-        ASSIGN_KIND => assign(c, m.target, v, store),
-        JUMP_KIND => jump(c, m.target, v),
-        CALL_KIND => enter(c, m.target, m.other, v, store),
-        RETURN_KIND => leave(c, v, store),
+    match m.kind {
+        CommandKind::Assign => assign(c, m.target, v, store),
+        CommandKind::Jump => jump(c, m.target, v),
+        CommandKind::Call => enter(c, m.target, m.other, v, store),
+        CommandKind::Return => leave(c, v, store),
         _ => Next::Failed(values::tag(v), values::word(v)),
     }
 }
 
 // One command that is no action on cells
+#[tactic(auto, unfolding(crate::specs::Mirror::step_in, crate::specs::Mirror::on_value))]
 pub fn step(
     code: &[u32; CODE_WORDS],
     c: Control,
     m: Command,
-    known: bool,
-    inputs: &[u32; MOST_INPUTS as usize],
+    known: Option<&[u32; MOST_INPUTS as usize]>,
     store: &mut [u64; STORE_WORDS],
     pool: &mut [u8],
     count: &mut u32,
 ) -> Next
-    ensures { after result store.new pool.new count.new ≡ step_in code.now c m known inputs.now store.old pool.old count.old }
+    ensures { after result store.new pool.new count.new ≡ step_in code.now c m (known_in known.entry) store.old pool.old count.old }
 {
-    let kind = m.kind;
-    match kind {
-        USYM_KIND => locate(c, m.target, store),
-        ISYM_KIND => receive(c, m.target, known, inputs, store, pool, count),
-        VANISH_KIND => Next::Vanished,
-        _ => {
-            let v = evaluate::value(code, m.first, store, c.frame, pool, count);
-            if v < VALUES {
-                return Next::Error(values::word(v));
-            }
-            act(c, m, v, store)
-        }
+    match m.kind {
+        CommandKind::USym => locate(c, m.target, store),
+        CommandKind::ISym => receive(c, m.target, known, store, pool, count),
+        CommandKind::Vanish => Next::Vanished,
+        _ => match evaluate::value(code, m.first, store, c.frame, pool, count) {
+            Ok(v) => act(c, m, v, store),
+            Err(e) => Next::Error(e),
+        },
     }
 }
