@@ -1,7 +1,6 @@
 // Terms: the operators on values while exploring. "An operator is worked out at once exactly if all its operands are constants, or if it
 // is `=` on two sorts. Otherwise, where the sorts are right, it makes one term". A term is five words in the lent pool, 20 bytes at 20 × its
-// place, written where the pool has room; the count goes on past the room, so that the caller can see refusal 10. An answer below 2^32 is
-// an error number. The words are specs/Mirror.antt's; specs/Laws/Engine.antt shows that they are the definitions' terms.
+// place, written where the pool has room; the count goes on past the room, so that the caller can see refusal 10. The words are specs/Mirror.antt's; specs/Laws/Engine.antt shows that they are the definitions' terms.
 #![tactic(auto)]
 
 ghost use Rattle.std.specs.Prelude.{◌≡◌, ◌+◌, ◌≤◌, length};
@@ -9,15 +8,13 @@ ghost use Rattle.std.proofs.lemmas.List.Edits.{sets};
 ghost use Rattle.gil.specs.Numbers.{term_length};
 ghost use Rattle.machine_terms.specs.Mirror.{did, node_of, made_in, term_in, needed_in, operate_in, negate_in, input_in};
 
+use gil::errors::Error;
 use gil::layout::TERM_BYTES;
 use gil::numbers;
 use lent_words as words;
 use machine_code::EQUAL_NODE;
 use machine_values as values;
-use machine_values::{BOOLEAN_TERMS, FALSE, Input, TERMS};
-
-// What an evaluation answers where the sorts are wrong
-const WRONG_SORT: u64 = numbers::WRONG_SORT as u64;
+use machine_values::{BOOLEAN_TERMS, FALSE, Fit, Input, TERMS};
 
 fn put_node(pool: &mut [u8], at: usize, kind: u32, a: u64, b: u64)
     requires { at + term_length ≤ length pool.old }
@@ -31,6 +28,7 @@ fn put_node(pool: &mut [u8], at: usize, kind: u32, a: u64, b: u64)
 }
 
 // One more term; answers its place.
+#[tactic(auto, unfolding(crate::specs::Mirror::made_in, crate::specs::Mirror::pool_with))]
 fn make(pool: &mut [u8], count: &mut u32, kind: u32, a: u64, b: u64) -> u32
     ensures { did result pool.new count.new ≡ made_in kind a b pool.old count.old }
 {
@@ -44,6 +42,7 @@ fn make(pool: &mut [u8], count: &mut u32, kind: u32, a: u64, b: u64) -> u32
 }
 
 // "`iSym` the next input, always a number"
+#[tactic(auto, unfolding(crate::specs::Mirror::input_in, crate::specs::Mirror::made_in))]
 pub fn input(pool: &mut [u8], count: &mut u32, i: Input) -> u64
     ensures { did result pool.new count.new ≡ input_in i.0 pool.old count.old }
 {
@@ -52,6 +51,7 @@ pub fn input(pool: &mut [u8], count: &mut u32, i: Input) -> u64
 }
 
 // An operator's term: `+` and `-` make a number, the others a boolean. Its kind is two below its node's.
+#[tactic(auto, unfolding(crate::specs::Mirror::term_in, crate::specs::Mirror::made_in))]
 fn term(pool: &mut [u8], count: &mut u32, kind: u32, a: u64, b: u64) -> u64
     ensures { did result pool.new count.new ≡ term_in kind a b pool.old count.old }
 {
@@ -64,48 +64,45 @@ fn term(pool: &mut [u8], count: &mut u32, kind: u32, a: u64, b: u64) -> u64
 }
 
 // Two constants of the sort that the operator needs: the common case, told by their tags alone
+#[tactic(auto, unfolding(crate::specs::Mirror::needed_in))]
 pub fn needed(kind: u32, a: u64, b: u64) -> bool
     ensures { result ≡ needed_in kind a b }
 {
     let sort = values::needed(kind);
-    if values::tag(a) == sort {
-        return values::tag(b) == sort;
-    }
-    false
+    values::tag(a) == sort && values::tag(b) == sort
 }
 
-pub fn operate(pool: &mut [u8], count: &mut u32, kind: u32, a: u64, b: u64) -> u64
+#[tactic(auto, unfolding(crate::specs::Mirror::operate_in, crate::specs::Mirror::combine_in))]
+#[inline(always)]
+pub fn operate(pool: &mut [u8], count: &mut u32, kind: u32, a: u64, b: u64) -> Result<u64, Error>
     ensures { did result pool.new count.new ≡ operate_in kind a b pool.old count.old }
 {
     if needed(kind, a, b) {
-        return values::work(kind, values::word(a), values::word(b));
+        return Ok(values::work(kind, values::word(a), values::word(b)));
     }
-    let fit = values::fit(kind, values::sort(a), values::sort(b));
-    if fit == 1 {
-        return WRONG_SORT;
-    }
-    if fit == 2 {
-        return FALSE;
-    }
-    if a < TERMS {
-        if b < TERMS {
-            return values::work(kind, values::word(a), values::word(b));
+    match values::fitting(kind, values::sort(a), values::sort(b)) {
+        Fit::Wrong => Err(Error::WrongSort),
+        Fit::Unlike => Ok(FALSE),
+        Fit::Right => {
+            if a < TERMS && b < TERMS {
+                Ok(values::work(kind, values::word(a), values::word(b)))
+            } else {
+                Ok(term(pool, count, kind, a, b))
+            }
         }
-        return term(pool, count, kind, a, b);
     }
-    term(pool, count, kind, a, b)
 }
 
-pub fn negate(pool: &mut [u8], count: &mut u32, a: u64) -> u64
+#[tactic(auto, unfolding(crate::specs::Mirror::negate_in, crate::specs::Mirror::made_in))]
+pub fn negate(pool: &mut [u8], count: &mut u32, a: u64) -> Result<u64, Error>
     ensures { did result pool.new count.new ≡ negate_in a pool.old count.old }
 {
-    let sort = values::sort(a);
-    if sort == numbers::BOOLEAN_TAG {
-        if a < TERMS {
-            return values::truth(values::word(a) == 0);
-        }
-        let k = make(pool, count, numbers::NOT_KIND, a, 0);
-        return BOOLEAN_TERMS + k as u64;
+    if values::sort(a) != numbers::BOOLEAN_TAG {
+        return Err(Error::WrongSort);
     }
-    WRONG_SORT
+    if a < TERMS {
+        return Ok(values::truth(values::word(a) == 0));
+    }
+    let k = make(pool, count, numbers::NOT_KIND, a, 0);
+    Ok(BOOLEAN_TERMS + k as u64)
 }

@@ -3,11 +3,14 @@
 use Rattle.std.specs.Prelude.{◌≡◌, ℕ, ◌+◌, ◌-◌, ◌/◌, ◌%◌, ◌<◌, ◌≤◌, Bool, true, false, ◌==◌, nat_lt, refl}
 use Rattle.std.proofs.Common.{arith}
 use Rattle.gil.specs.Tree.{Op, plus, minus, equal, less, and, or}
-use Rattle.gil.specs.Values.{Constant, number, boolean, location, Sort, numbers, booleans, locations, sort_of, same_sort, both, Fit, right, wrong, unlike, right_if, alike_if, fit, number_in, truth_in, same_truth, same_constant, work, work_not}
+use Rattle.gil.specs.Values.{Constant, number, boolean, location, Sort, numbers, booleans, locations, sort_of, same_sort, both, right, wrong, unlike, right_if, alike_if, fit, number_in, truth_in, same_truth, same_constant, work, work_not}
+use Rattle.gil.specs.Values as Values
 use Rattle.gil.specs.Layout.{bit}
 use Rattle.machine_code.specs.Code.{op_word, equal_node}
 use Rattle.machine_code.specs.Mirror.{if?}
-use Rattle.machine_values.specs.Mirror.{truth_word, sort_word, needed_word, fit_word, both_word, either_word, work_word}
+use Rattle.machine_values.specs.declared.Fit.{Fit}
+use Rattle.machine_values.specs.declared.Fit.TheVariants.{Right, Wrong, Unlike}
+use Rattle.machine_values.specs.Mirror.{truth_word, sort_word, needed_word, fit_in, both_word, either_word, work_word}
 
 -- a constant and its word; numbers and locations have 32 bits
 pub data ConstAs : Constant → ℕ → Type 0 where
@@ -15,16 +18,16 @@ pub data ConstAs : Constant → ℕ → Type 0 where
   a_truth : {b : Bool} → ConstAs (boolean b) (truth_word b)
   a_location : {l : ℕ} → l < 4294967296 → ConstAs (location l) (12884901888 + l)
 
--- a sort's and a fit's number
+-- a sort's number, and a fit as the code has it
 unfoldable pub sort_code : Sort → ℕ
 sort_code numbers = 1
 sort_code booleans = 2
 sort_code locations = 3
 
-unfoldable pub fit_code : Fit → ℕ
-fit_code right = 0
-fit_code wrong = 1
-fit_code unlike = 2
+unfoldable pub fit_code : Values.Fit → Fit
+fit_code right = Right
+fit_code wrong = Wrong
+fit_code unlike = Unlike
 
 -- the word of a number, of a location and of a truth
 pub low-number : (n : ℕ) → n < 4294967296 → (4294967296 + n) % 4294967296 ≡ n
@@ -65,7 +68,7 @@ const-high (a_truth {b = false}) = omega arith
 const-high (a_location h) = omega arith
 
 -- how sorts fit
-fits-numbers : (s t : Sort) → if? (sort_code s == 1) (if? (sort_code t == 1) 0 1) 1 ≡ fit_code (right_if (both numbers s t))
+fits-numbers : (s t : Sort) → if? (sort_code s == 1) (if? (sort_code t == 1) Right Wrong) Wrong ≡ fit_code (right_if (both numbers s t))
 unfolding sort_code fit_code right_if both same_sort
 fits-numbers numbers numbers = refl
 fits-numbers numbers booleans = refl
@@ -73,7 +76,7 @@ fits-numbers numbers locations = refl
 fits-numbers booleans t = refl
 fits-numbers locations t = refl
 
-fits_booleans : (s t : Sort) → if? (sort_code s == 2) (if? (sort_code t == 2) 0 1) 1 ≡ fit_code (right_if (both booleans s t))
+fits_booleans : (s t : Sort) → if? (sort_code s == 2) (if? (sort_code t == 2) Right Wrong) Wrong ≡ fit_code (right_if (both booleans s t))
 unfolding sort_code fit_code right_if both same_sort
 fits_booleans numbers t = refl
 fits_booleans booleans numbers = refl
@@ -81,7 +84,7 @@ fits_booleans booleans booleans = refl
 fits_booleans booleans locations = refl
 fits_booleans locations t = refl
 
-fits-alike : (s t : Sort) → if? (sort_code s == sort_code t) 0 2 ≡ fit_code (alike_if (same_sort s t))
+fits-alike : (s t : Sort) → if? (sort_code s == sort_code t) Right Unlike ≡ fit_code (alike_if (same_sort s t))
 unfolding sort_code fit_code alike_if same_sort
 fits-alike numbers numbers = refl
 fits-alike numbers booleans = refl
@@ -93,8 +96,8 @@ fits-alike locations numbers = refl
 fits-alike locations booleans = refl
 fits-alike locations locations = refl
 
-pub fit_law : (o : Op) (s t : Sort) → fit_word (op_word o) (sort_code s) (sort_code t) ≡ fit_code (fit o s t)
-unfolding fit_word needed_word op_word fit
+pub fit_law : (o : Op) (s t : Sort) → fit_in (op_word o) (sort_code s) (sort_code t) ≡ fit_code (fit o s t)
+unfolding fit_in needed_word op_word fit
 fit_law plus s t = fits-numbers s t
 fit_law minus s t = fits-numbers s t
 fit_law equal s t = fits-alike s t

@@ -3,6 +3,8 @@
 use Rattle.std.specs.Prelude.{ℕ, ◌+◌, ◌-◌, ◌/◌, ◌%◌, Bool, true, false, ◌==◌, nat_lt}
 use Rattle.gil.specs.Numbers.{number_tag, boolean_tag, location_tag}
 use Rattle.machine_code.specs.Code.{plus_node, minus_node, equal_node, less_node, and_node}
+use Rattle.machine_values.specs.declared.Fit.{Fit}
+use Rattle.machine_values.specs.declared.Fit.TheVariants.{Right, Wrong, Unlike}
 pub use Rattle.machine_code.specs.Mirror.{if?}
 
 unfoldable pub truth_word : Bool → ℕ
@@ -15,11 +17,10 @@ sort_word v = if? (nat_lt location_tag (v / 4294967296)) (v / 4294967296 - locat
 unfoldable pub needed_word : ℕ → ℕ
 needed_word kind = if? (nat_lt kind and_node) number_tag boolean_tag
 
--- 0 right, 1 wrong, 2 unlike
-unfoldable pub fit_word : ℕ → ℕ → ℕ → ℕ
-fit_word kind s t =
-    if? (kind == equal_node) (if? (s == t) 0 2)
-    (if? (s == needed_word kind) (if? (t == needed_word kind) 0 1) 1)
+unfoldable pub fit_in : ℕ → ℕ → ℕ → Fit
+fit_in kind s t =
+    if? (kind == equal_node) (if? (s == t) Right Unlike)
+    (if? (s == needed_word kind) (if? (t == needed_word kind) Right Wrong) Wrong)
 
 unfoldable pub both_word : ℕ → ℕ → ℕ
 both_word x y = if? (x == 0) 8589934592 (8589934592 + y)

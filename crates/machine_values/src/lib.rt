@@ -1,19 +1,21 @@
 // Values as the engine holds them: a tag and a word in one u64, tag × 2^32 + word. Tags: 1 number, 2 boolean, 3 location, 4 number term,
-// 5 boolean term. Below 2^32 there is no value: 0 is nothing (a variable not bound), and where an evaluation answers, n is error n.
-// The operators on constants, and how the sorts of two operands fit; an operator's kind is that of its node. The words are specs/Mirror.antt's; specs/Laws.antt shows that they are document 01's values and operators.
+// 5 boolean term. Below 2^32 there is no value. One word and not an enum: a path's store has values, the places that calls return to and 0 for a
+// variable that is not bound in the same fixed words. The operators on constants, and how the sorts of two operands fit; an operator's kind is that
+// of its node, read as it stands: kinds 11 to 15 are no operator's, and what they answer is specs/Mirror.antt's. specs/Laws.antt shows that the
+// words are document 01's values and operators.
 #![tactic(auto)]
 
 ghost use Rattle.std.specs.Prelude.{◌≡◌, ◌+◌, ◌/◌, ◌%◌};
-ghost use Rattle.machine_values.specs.Mirror.{truth_word, sort_word, needed_word, fit_word, both_word, either_word, work_word};
+ghost use Rattle.machine_values.specs.Mirror.{truth_word, sort_word, needed_word, fit_in, both_word, either_word, work_word};
 
 use gil::numbers::{BOOLEAN_TAG, LOCATION_TAG, NUMBER_TAG};
 use machine_code::{AND_NODE, EQUAL_NODE, LESS_NODE, MINUS_NODE, PLUS_NODE};
 
 // "Uninterpreted symbols and interpreted ones are never confused": the number of a location, and that of an input
-#[derive(Clone, Copy)]
+#[derive(Clone, Copy, PartialEq, Eq)]
 pub struct Location(pub u32);
 
-#[derive(Clone, Copy)]
+#[derive(Clone, Copy, PartialEq, Eq)]
 pub struct Input(pub u32);
 
 pub const VALUES: u64 = 4294967296;
@@ -44,6 +46,7 @@ pub fn number(n: u32) -> u64
     VALUES + n as u64
 }
 
+#[tactic(auto, unfolding(crate::specs::Mirror::truth_word))]
 pub fn truth(b: bool) -> u64
     ensures { result ≡ truth_word b }
 {
@@ -56,7 +59,9 @@ pub fn located(l: Location) -> u64
     LOCATIONS + l.0 as u64
 }
 
-// A value's sort: 1 number, 2 boolean, 3 location. A term's tag is three above its sort.
+// A value's sort: 1 number, 2 boolean, 3 location. A term's tag is three above its sort. A number and not an enum, which would need a case for words
+// that are no value.
+#[tactic(auto, unfolding(crate::specs::Mirror::sort_word))]
 pub fn sort(v: u64) -> u32
     ensures { result ≡ sort_word v }
 {
@@ -69,6 +74,7 @@ pub fn sort(v: u64) -> u32
 }
 
 // The sort that an operator other than `=` needs; `=` takes every sort, and most often numbers
+#[tactic(auto, unfolding(crate::specs::Mirror::needed_word))]
 pub fn needed(kind: u32) -> u32
     ensures { result ≡ needed_word kind }
 {
@@ -79,27 +85,31 @@ pub fn needed(kind: u32) -> u32
     }
 }
 
-// How two sorts fit an operator: 0 right, 1 wrong, 2 unlike
-pub fn fit(kind: u32, s: u32, t: u32) -> u32
-    ensures { result ≡ fit_word kind s t }
+// How two sorts fit an operator. Other operators than `=` err where they don't; `=` is false of unlike ones.
+#[derive(Clone, Copy)]
+pub enum Fit {
+    Right,
+    Wrong,
+    Unlike,
+}
+
+#[tactic(auto, unfolding(crate::specs::Mirror::fit_in))]
+pub fn fitting(kind: u32, s: u32, t: u32) -> Fit
+    ensures { result ≡ fit_in kind s t }
 {
     if kind == EQUAL_NODE {
-        if s == t {
-            return 0;
-        }
-        return 2;
+        return if s == t { Fit::Right } else { Fit::Unlike };
     }
     let n = needed(kind);
-    if s == n {
-        if t == n {
-            return 0;
-        }
-        return 1;
+    if s == n && t == n {
+        Fit::Right
+    } else {
+        Fit::Wrong
     }
-    1
 }
 
 // An operator on the words of two constants of the right sorts. A truth's word is 0 or 1.
+#[tactic(auto, unfolding(crate::specs::Mirror::work_word))]
 pub fn work(kind: u32, x: u32, y: u32) -> u64
     ensures { result ≡ work_word kind x y }
 {
@@ -113,12 +123,14 @@ pub fn work(kind: u32, x: u32, y: u32) -> u64
     }
 }
 
+#[tactic(auto, unfolding(crate::specs::Mirror::both_word))]
 fn both(x: u32, y: u32) -> u64
     ensures { result ≡ both_word x y }
 {
     if x == 0 { FALSE } else { FALSE + y as u64 }
 }
 
+#[tactic(auto, unfolding(crate::specs::Mirror::either_word))]
 fn either(x: u32, y: u32) -> u64
     ensures { result ≡ either_word x y }
 {

@@ -1,18 +1,22 @@
 -- The functions of Mirror are the machine's actions, for any model whose terms and world stand in words: what `Engine` asks of a model.
 -- Proved once for the plain run's model and for the pool's (Plain, Pooled). Assumes nothing.
-use Rattle.std.specs.Prelude.{◌≡◌, ℕ, ◌+◌, ◌/◌, ◌%◌, ◌<◌, ◌≤◌, Bool, false, List, ◌==◌, nat_lt, slice_index}
+use Rattle.std.specs.Prelude.{◌≡◌, ℕ, ◌+◌, ◌/◌, ◌%◌, ◌<◌, ◌≤◌, false, List, Option, Some, None, Result, Ok, Err, ◌==◌, nat_lt, slice_index}
+use Rattle.std.specs.Borrow.{Bor}
 use Rattle.std.proofs.Math.Path.{refl}
-use Rattle.std.proofs.Common.{arith}
-use borrow.Author.Tests.{lt-ltb, le-ltb}
+use Rattle.std.proofs.Common.{arith, lt-ltb, le-ltb}
 use Rattle.gil.specs.Numbers.{most_inputs, number_term_tag, boolean_term_tag}
 use Rattle.gil.specs.Tree.{Op}
 use Rattle.gil.specs.Values.{Constant, Sort, numbers, booleans, locations, sort_of, same_sort, Fit, right, wrong, unlike, fit, Value, const, term, Node, input, neg, bin}
-use Rattle.gil.specs.Machine.{Model, Result, ok, err, sort_in, operate, fitted, combine, making, negate, negated, must, give, stop, and_then, ◌>>◌}
+use Rattle.gil.specs.declared.errors.Error.{Error}
+use Rattle.gil.specs.declared.errors.Error.TheVariants.{WrongSort}
+use Rattle.gil.specs.Codes.{error_number}
+use Rattle.gil.specs.Machine as Machine
+use Rattle.gil.specs.Machine.{Model, ok, err, sort_in, operate, fitted, combine, making, negate, negated, must, give, stop, and_then, ◌>>◌}
 use Rattle.machine_code.specs.Code.{op_word}
 use Rattle.machine_code.specs.Mirror.{if?}
-use Rattle.machine_values.specs.Mirror.{truth_word, sort_word, work_word}
+use Rattle.machine_values.specs.Mirror.{truth_word, sort_word}
 use Rattle.machine_values.specs.Laws.{ConstAs, a_number, a_truth, a_location, sort_code, fit_code, sort_of_tag, const-sort, const-low, const-high, fit_law, work_law, not_law}
-use Rattle.machine_terms.specs.Mirror.{Did, did, node_of, pool_with, input_in, term_in, operate_in, negate_in}
+use Rattle.machine_terms.specs.Mirror.{Did, did, gave, by_fit, node_of, pool_with, input_in, term_in, combine_in, operate_in, negate_in}
 
 -- a value and its word, where a term's is known
 pub data ValueAs {T : Type 0} (TermAs : T → ℕ → Type 0) : Value T → ℕ → Type 0 where
@@ -25,11 +29,17 @@ pub data TermTag : Sort → ℕ → Type 0 where
   tags_boolean : {x : ℕ} → x / 4294967296 ≡ boolean_term_tag → TermTag booleans x
 
 -- what an input is in words: known, or a term
-unfoldable pub fresh_in : Bool → List ℕ → ℕ → List ℕ → ℕ → Did
-fresh_in known inputs i pool count = if? known (did (4294967296 + slice_index inputs i) pool count) (input_in i pool count)
+unfoldable pub fresh_in : Option (List ℕ) → ℕ → List ℕ → ℕ → Did ℕ
+fresh_in (Some inputs) i pool count = did (4294967296 + slice_index inputs i) pool count
+fresh_in None i pool count = input_in i pool count
+
+-- the inputs that are known, as the code has them
+abbrev pub known_in : Option (Bor (List ℕ)) → Option (List ℕ)
+known_in (Some inputs) = Some inputs.now
+known_in None = None
 
 -- a made value and the world after it
-pub record MadeAs {W T : Type 0} (TermAs : T → ℕ → Type 0) (WorldAs : W → List ℕ → ℕ → Type 0) (r : W × Value T) (d : Did) : Type 0 where
+pub record MadeAs {W T : Type 0} (TermAs : T → ℕ → Type 0) (WorldAs : W → List ℕ → ℕ → Type 0) (r : W × Value T) (d : Did ℕ) : Type 0 where
   pub world : WorldAs r.0 d.pool d.count
   pub value : ValueAs TermAs r.1 d.out
 
@@ -51,12 +61,11 @@ pub record Engine (M : Model) : Type 1 where
       → TermAs t x
       → MadeAs TermAs WorldAs (M.make w (neg (term t)))
       (did (21474836480 + count) (pool_with (node_of 2 x 0) count pool) ((count + 1) % 4294967296))
-  pub known : Bool
-  pub inputs : List ℕ
+  pub known : Option (List ℕ)
   pub makes_input :
       {w : M.World} {pool : List ℕ} {count : ℕ} (i : ℕ) → i < most_inputs
       → WorldAs w pool count
-      → MadeAs TermAs WorldAs (M.make w (input i)) (fresh_in known inputs i pool count)
+      → MadeAs TermAs WorldAs (M.make w (input i)) (fresh_in known i pool count)
 
 tag_sort : {s : Sort} {x : ℕ} → TermTag s x → sort_word x ≡ sort_code s
 unfolding sort_code
@@ -71,10 +80,10 @@ module _ {M : Model} (E : Engine M) where
   abbrev pub As : Value M.Term → ℕ → Type 0
   As = ValueAs E.TermAs
 
-  -- an action's answer: a value or an error number, and the world after it
-  pub data EvalAs : Result M.World (Value M.Term) → Did → Type 0 where
-    gives : {w : M.World} {v : Value M.Term} {d : Did} → E.WorldAs w d.pool d.count → As v d.out → EvalAs (ok w v) d
-    errs : {w : M.World} {n : ℕ} {d : Did} → E.WorldAs w d.pool d.count → d.out ≡ n → n < 4294967296 → EvalAs (err w n) d
+  -- an action's answer: a value or an error, and the world after it
+  pub data EvalAs : Machine.Result M.World (Value M.Term) → Did (Result ℕ Error) → Type 0 where
+    gives : {w : M.World} {v : Value M.Term} {x : ℕ} {pool : List ℕ} {count : ℕ} → E.WorldAs w pool count → As v x → EvalAs (ok w v) (did (Ok x) pool count)
+    errs : {w : M.World} {pool : List ℕ} {count : ℕ} (e : Error) → E.WorldAs w pool count → EvalAs (err w (error_number e)) (did (Err e) pool count)
 
   pub value-sort : {v : Value M.Term} {x : ℕ} → As v x → sort_word x ≡ sort_code (sort_in M v)
   unfolding sort_in
@@ -85,7 +94,7 @@ module _ {M : Model} (E : Engine M) where
   value_low (const_as h) = const-low h
   value_low (term_as h) = omega (arith, tag_high (E.tagged h))
 
-  made : {w : M.World} {n : Node M.Term} {d : Did} → MadeAs E.TermAs E.WorldAs (M.make w n) d → EvalAs (making M n w) d
+  made : {w : M.World} {n : Node M.Term} {d : Did ℕ} → MadeAs E.TermAs E.WorldAs (M.make w n) d → EvalAs (making M n w) (gave d)
   unfolding making
   made m = gives m.world m.value
 
@@ -96,10 +105,8 @@ module _ {M : Model} (E : Engine M) where
       → As a x
       → As b y
       → EvalAs (combine M o a b w)
-      (if? (nat_lt x 17179869184)
-      (if? (nat_lt y 17179869184) (did (work_word (op_word o) (x % 4294967296) (y % 4294967296)) pool count) (term_in (op_word o) x y pool count))
-      (term_in (op_word o) x y pool count))
-  unfolding combine give sort_in
+      (combine_in (op_word o) x y pool count)
+  unfolding combine give sort_in combine_in
   combined o {x} {y} e h (const_as p) (const_as q) =
       simp (lt-ltb x 17179869184 (const-high p), lt-ltb y 17179869184 (const-high q)) (gives h (const_as (work_law o e p q)))
   combined o {x} {y} e h (const_as p) (term_as {t} q) =
@@ -116,14 +123,10 @@ module _ {M : Model} (E : Engine M) where
       → As a x
       → As b y
       → EvalAs (fitted M f o a b w)
-      (if? (fit_code f == 1) (did 2 pool count)
-      (if? (fit_code f == 2) (did 8589934592 pool count)
-      (if? (nat_lt x 17179869184)
-      (if? (nat_lt y 17179869184) (did (work_word (op_word o) (x % 4294967296) (y % 4294967296)) pool count) (term_in (op_word o) x y pool count))
-      (term_in (op_word o) x y pool count))))
+      (by_fit (fit_code f) (combine_in (op_word o) x y pool count) (did (Err WrongSort) pool count) (did (Ok 8589934592) pool count))
   unfolding fitted fit_code stop give truth_word
   fitted_as o right e h p q = combined o e h p q
-  fitted_as o wrong e h p q = errs {n = 2} h refl (omega arith)
+  fitted_as o wrong e h p q = errs WrongSort h
   fitted_as o unlike e h p q = gives h (const_as (a_truth {b = false}))
 
   pub operate_as : (o : Op) {a b : Value M.Term} {x y : ℕ} {w : M.World} {pool : List ℕ} {count : ℕ}
@@ -141,8 +144,8 @@ module _ {M : Model} (E : Engine M) where
       → E.WorldAs w pool count
       → As a x
       → EvalAs (negated M a w)
-      (if? (nat_lt x 17179869184) (did (truth_word (x % 4294967296 == 0)) pool count)
-      (did (21474836480 + count) (pool_with (node_of 2 x 0) count pool) ((count + 1) % 4294967296)))
+      (if? (nat_lt x 17179869184) (did (Ok (truth_word (x % 4294967296 == 0))) pool count)
+      (did (Ok (21474836480 + count)) (pool_with (node_of 2 x 0) count pool) ((count + 1) % 4294967296)))
   unfolding negated sort_in sort_of give
   negated_as e h (const_as (a_number k)) = let z : ◌≡◌ {A = ℕ} 0 1 = cc in absurd (omega arith)
   negated_as e h (const_as (a_truth {b})) =
@@ -156,13 +159,13 @@ module _ {M : Model} (E : Engine M) where
       → As a x
       → EvalAs ((must (same_sort booleans s) 2 >> negated M a) w)
       (if? (sort_code s == 2)
-      (if? (nat_lt x 17179869184) (did (truth_word (x % 4294967296 == 0)) pool count)
-      (did (21474836480 + count) (pool_with (node_of 2 x 0) count pool) ((count + 1) % 4294967296)))
-      (did 2 pool count))
+      (if? (nat_lt x 17179869184) (did (Ok (truth_word (x % 4294967296 == 0))) pool count)
+      (did (Ok (21474836480 + count)) (pool_with (node_of 2 x 0) count pool) ((count + 1) % 4294967296)))
+      (did (Err WrongSort) pool count))
   unfolding must same_sort sort_code stop give and_then ◌>>◌
-  negate-by numbers e h p = errs {n = 2} h refl (omega arith)
+  negate-by numbers e h p = errs WrongSort h
   negate-by booleans e h p = negated_as e h p
-  negate-by locations e h p = errs {n = 2} h refl (omega arith)
+  negate-by locations e h p = errs WrongSort h
 
   pub negate_as : {a : Value M.Term} {x : ℕ} {w : M.World} {pool : List ℕ} {count : ℕ}
       → E.WorldAs w pool count

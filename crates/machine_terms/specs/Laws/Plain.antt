@@ -1,6 +1,6 @@
 -- The plain run's model stands in words: it has no term, and its world is nothing. So the engine, run with known inputs, makes no term: the
 -- pool and the count stay what they were. Assumes nothing.
-use Rattle.std.specs.Prelude.{◌≡◌, ℕ, ◌<◌, true, List, slice_index}
+use Rattle.std.specs.Prelude.{◌≡◌, ℕ, ◌<◌, Some, List, slice_index}
 use Rattle.gil.specs.Plain.{plain, no_sort, known}
 use Rattle.machine_values.specs.Laws.{a_number}
 use Rattle.machine_terms.specs.Laws.Engine.{Engine, const_as, fresh_in}
@@ -22,7 +22,6 @@ plain_engine inputs fits pool count =
       tagged = λ {t} h. absurd h;
       makes_bin = λ o t h p q. absurd t;
       makes_neg = λ {w} {pool} {count} {t} h q. absurd t;
-      known = true;
-      inputs = inputs;
+      known = Some inputs;
       makes_input = λ i h u. record { world = u; value = const_as (a_number (fits i)) };
     }

@@ -1,6 +1,6 @@
 -- The pool's model stands in words: the count is the number of terms, and the lent bytes are theirs, as far as there is room. Both hold up to
 -- 2^32 terms; a command makes at most 511. Assumes nothing.
-use Rattle.std.specs.Prelude.{◌≡◌, ℕ, zero, suc, ◌+◌, ◌-◌, ◌*◌, ◌/◌, ◌%◌, ◌<◌, ◌≤◌, Bool, true, false, List, [], ◌∷◌, ◌++◌, length, take, drop, replicate, nat_le, nat_lt, refl}
+use Rattle.std.specs.Prelude.{◌≡◌, ℕ, zero, suc, ◌+◌, ◌-◌, ◌*◌, ◌/◌, ◌%◌, ◌<◌, ◌≤◌, Bool, true, false, List, [], ◌∷◌, ◌++◌, length, take, drop, replicate, nat_le, nat_lt, None, refl}
 use Rattle.std.proofs.Common.{sym, ◌∙◌, ap, ap₂, append-nil, mod-eq_of_lt, arith, length-append, length-take, take_all, le-leb, ltb-true, ltb-false}
 use Rattle.std.proofs.Math.Nat.{add-mul-div_right, add-mul-mod_self_right, mod-add-mod, sub-zero, zero-sub, suc-sub-suc}
 use Rattle.std.proofs.lemmas.List.{length-replicate, take-append-le}
@@ -224,9 +224,7 @@ pooled_engine =
             value = op_made o h;
           };
       makes_neg = λ h p. record { world = made_as (neg (term _)) _ (one_value 2 (term_as p)) h; value = boolean-made h };
-      known = false;
-      -- the exploration knows no inputs and passes zeros
-      inputs = replicate 16 0;
+      known = None;
       makes_input = λ i few h.
           record { world = made_as (input i) _ (one_value 1 (const_as (a_number (omega arith)))) h; value = number-made h };
     }

@@ -1,3 +1,0 @@
--- Laws that the functions' own proofs cite. Assumes nothing.
-pub mod Deeds
-pub mod Halving
