@@ -1,6 +1,7 @@
 -- The words of a row's head, where a path stopped so: what each function of this crate answers. Assumes nothing.
 use Rattle.std.specs.Prelude.{ℕ, ◌+◌, ◌*◌, ◌%◌, List, Option, None, Some}
 use Rattle.gil.specs.Numbers.{for_steps, for_branches}
+use Rattle.gil.specs.Codes.{error_number}
 use Rattle.gil.specs.declared.outcomes.Outcome.TheVariants as Outcomes
 use Rattle.machine_code.specs.Mirror.{code_word}
 use Rattle.machine_commands.specs.declared.Control.{Control}
@@ -18,7 +19,7 @@ end_of (On d) n = cut_of for_branches n
 end_of (Returned t w) n = record { outcome = Outcomes.Returned; tag = t; word = w; steps = (n + 1) % 4294967296 }
 end_of (Failed t w) n = record { outcome = Outcomes.Failed; tag = t; word = w; steps = (n + 1) % 4294967296 }
 end_of Vanished n = record { outcome = Outcomes.Vanished; tag = 0; word = 0; steps = (n + 1) % 4294967296 }
-end_of (Error e) n = record { outcome = Outcomes.Error; tag = 0; word = e; steps = (n + 1) % 4294967296 }
+end_of (Error e) n = record { outcome = Outcomes.Error; tag = 0; word = error_number e; steps = (n + 1) % 4294967296 }
 end_of (Fork t a b) n = cut_of for_branches n
 
 -- no command stopped it: its steps were used up

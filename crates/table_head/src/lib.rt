@@ -49,7 +49,7 @@ fn ends(next: Option<Next>, steps: u32) -> Ending
         Some(Next::Error(e)) => Ending {
             outcome: Outcome::Error,
             tag: 0,
-            word: e,
+            word: e as u32,
             steps: counted,
         },
         Some(Next::On(_)) => cut(Reason::Branches, steps),
