@@ -1,3 +1,2 @@
 pub mod Mirror
-pub mod Steps
 pub mod Laws

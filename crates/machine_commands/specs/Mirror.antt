@@ -1,13 +1,15 @@
 -- What the functions of this crate answer and leave, on words. Assumes nothing.
-use Rattle.std.specs.Prelude.{ℕ, zero, suc, ◌+◌, ◌-◌, ◌*◌, ◌/◌, ◌%◌, Bool, List, replicate, ◌==◌, nat_le, nat_lt, slice_index, slice_set}
-use Rattle.gil.specs.Numbers.{most_variables, most_inputs, most_locations, wrong_sort, ninth_frame, seventeenth_input, seventeenth_location, boolean_tag, boolean_term_tag}
+use Rattle.std.specs.Prelude.{ℕ, zero, suc, ◌+◌, ◌-◌, ◌*◌, ◌/◌, ◌%◌, List, Option, Result, replicate, ◌==◌, nat_le, nat_lt, slice_index, slice_set}
+use Rattle.gil.specs.Numbers.{most_variables, most_inputs, most_locations, boolean_tag, boolean_term_tag}
+use Rattle.gil.specs.declared.errors.Error as Errors
+use Rattle.gil.specs.declared.errors.Error.TheVariants.{WrongSort, NinthFrame, SeventeenthInput, SeventeenthLocation}
 use Rattle.machine_code.specs.Code.{frame_words, store_words, returns_at, assign_kind, jump_kind, call_kind, u_sym_kind, i_sym_kind, return_kind, vanish_kind}
 use Rattle.machine_code.specs.Mirror.{if?, code_word}
 use Rattle.machine_values.specs.declared.Input.{Input}
 use Rattle.machine_values.specs.declared.Location.{Location}
 use Rattle.machine_terms.specs.Mirror.{Did}
 use Rattle.machine_terms.specs.Laws.Engine.{fresh_in}
-use Rattle.machine_evaluate.specs.Mirror.{evaluate_in}
+use Rattle.machine_evaluate.specs.Mirror.{by_result, evaluate_in}
 use Rattle.machine_commands.specs.declared.Control.{Control}
 use Rattle.machine_commands.specs.declared.Command.{Command}
 use Rattle.machine_commands.specs.declared.Next.{Next}
@@ -78,7 +80,7 @@ unfoldable pub jump_in : Control → ℕ → ℕ → Next
 jump_in c n v =
     if? (v / 4294967296 == boolean_tag)
     (if? (v % 4294967296 == 0) (On (onward_in c)) (On (goto_in n c)))
-    (if? (v / 4294967296 == boolean_term_tag) (Fork (v % 4294967296) (goto_in n c) (onward_in c)) (Error wrong_sort))
+    (if? (v / 4294967296 == boolean_term_tag) (Fork (v % 4294967296) (goto_in n c) (onward_in c)) (Error WrongSort))
 
 -- a frame's words, opened for a call
 unfoldable pub frame_in : ℕ → ℕ → ℕ → ℕ → ℕ → List ℕ → List ℕ
@@ -87,7 +89,7 @@ frame_in base v procedure next x store =
 
 unfoldable pub enter_in : Control → ℕ → ℕ → ℕ → List ℕ → Acted
 enter_in c x f v store =
-    if? (nat_le 7 c.frame) (acted (Error ninth_frame) store)
+    if? (nat_le 7 c.frame) (acted (Error NinthFrame) store)
     (acted
     (On (moved_in c (c.frame + 1) f 0))
     (frame_in (frame_words * (c.frame + 1)) v c.procedure (c.command + 1) x store))
@@ -111,7 +113,7 @@ with_input_in c = counted_in c (record { 0 = c.inputs.0 + 1 }) c.locations
 
 unfoldable pub locate_in : Control → ℕ → List ℕ → Acted
 locate_in c x store =
-    if? (nat_le most_locations c.locations.0) (acted (Error seventeenth_location) store) (assign_in (with_location_in c) x (12884901888 + c.locations.0) store)
+    if? (nat_le most_locations c.locations.0) (acted (Error SeventeenthLocation) store) (assign_in (with_location_in c) x (12884901888 + c.locations.0) store)
 
 -- what a command comes to, and the lent memory after it
 pub record After : Type 0 where
@@ -126,10 +128,10 @@ after n s p k = record { next = n; store = s; pool = p; count = k }
 abbrev pub after_acted : Acted → List ℕ → ℕ → After
 after_acted a p k = after a.next a.store p k
 
-unfoldable pub receive_in : Control → ℕ → Bool → List ℕ → List ℕ → List ℕ → ℕ → After
-receive_in c x known inputs store pool count =
-    if? (nat_le most_inputs c.inputs.0) (after (Error seventeenth_input) store pool count)
-    (let d = fresh_in known inputs c.inputs.0 pool count in
+unfoldable pub receive_in : Control → ℕ → Option (List ℕ) → List ℕ → List ℕ → ℕ → After
+receive_in c x known store pool count =
+    if? (nat_le most_inputs c.inputs.0) (after (Error SeventeenthInput) store pool count)
+    (let d = fresh_in known c.inputs.0 pool count in
     after_acted (assign_in (with_input_in c) x d.out store) d.pool d.count)
 
 -- a command whose expression has the value v
@@ -141,13 +143,12 @@ act_in c m v store =
     (if? (m.kind == return_kind) (leave_in c v store) (acted (Failed (v / 4294967296) (v % 4294967296)) store))))
 
 -- an evaluation, and what is done with its value
-unfoldable pub on_value : Did → List ℕ → (ℕ → Acted) → After
-on_value d store f =
-    if? (nat_lt d.out 4294967296) (after (Error (d.out % 4294967296)) store d.pool d.count) (after_acted (f d.out) d.pool d.count)
+unfoldable pub on_value : Did (Result ℕ Errors.Error) → List ℕ → (ℕ → Acted) → After
+on_value d store f = by_result d.out (λ v. after_acted (f v) d.pool d.count) (λ e. after (Error e) store d.pool d.count)
 
-unfoldable pub step_in : List ℕ → Control → Command → Bool → List ℕ → List ℕ → List ℕ → ℕ → After
-step_in code c m known inputs store pool count =
+unfoldable pub step_in : List ℕ → Control → Command → Option (List ℕ) → List ℕ → List ℕ → ℕ → After
+step_in code c m known store pool count =
     if? (m.kind == u_sym_kind) (after_acted (locate_in c m.target store) pool count)
-    (if? (m.kind == i_sym_kind) (receive_in c m.target known inputs store pool count)
+    (if? (m.kind == i_sym_kind) (receive_in c m.target known store pool count)
     (if? (m.kind == vanish_kind) (after Vanished store pool count)
     (on_value (evaluate_in code store c.frame m.first pool count) store (λ v. act_in c m v store))))

@@ -1,14 +1,12 @@
 -- Laws of the store's words. Assumes nothing.
-use Rattle.std.specs.Prelude.{◌≡◌, ℕ, suc, ◌+◌, ◌-◌, ◌*◌, ◌%◌, ◌<◌, ◌≤◌, List, ◌≢◌}
-use Rattle.std.proofs.Common.{◌∙◌, ap, ap₂, arith, ne_eqb, lt-ltb, le-ltb}
+use Rattle.std.specs.Prelude.{◌≡◌, ℕ, suc, ◌+◌, ◌-◌, ◌*◌, ◌<◌, ◌≤◌, List, ◌≢◌}
+use Rattle.std.proofs.Common.{◌∙◌, ap, ap₂, arith, ne_eqb}
 use Rattle.std.proofs.lemmas.Bool.{lt-leb}
 use Rattle.gil.specs.Numbers.{most_variables}
 use Rattle.machine_code.specs.Code.{frame_words, returns_at}
-use Rattle.machine_terms.specs.Mirror.{Did, did}
 use Rattle.machine_commands.specs.declared.Control.{Control}
-use Rattle.machine_commands.specs.declared.Next.{Next}
-use Rattle.machine_commands.specs.declared.Next.TheVariants.{On, Error}
-use Rattle.machine_commands.specs.Mirror.{moved_in, put_in, word_in, zeros_in, frame_in, Acted, acted, enter_in, leave_in, after, after_acted, on_value}
+use Rattle.machine_commands.specs.declared.Next.TheVariants.{On}
+use Rattle.machine_commands.specs.Mirror.{moved_in, put_in, word_in, zeros_in, frame_in, acted, enter_in, leave_in}
 
 -- sixteen words zeroed one after the other
 pub zeros-none : (base : ℕ) (store : List ℕ) → zeros_in most_variables base store ≡ zeros_in (most_variables - 0) (base + 0) store
@@ -50,16 +48,3 @@ pub left : (c : Control) (v : ℕ) (s : List ℕ) {t : List ℕ} {d : Control} �
     → acted (On d) t ≡ leave_in c v s
 unfolding leave_in
 left c v s h e k = simp (ne_eqb c.frame 0 h) (ap₂ (λ (d : Control) (t : List ℕ). acted (On d) t) e k)
-
--- an evaluation that errs, and one that gives a value
-pub value-errs : {x y n : ℕ} {p : List ℕ} {D : Did} (store : List ℕ) (f : ℕ → Acted) → did x p n ≡ D → x < 4294967296 → y ≡ x % 4294967296
-    → after (Error y) store p n ≡ on_value D store f
-unfolding on_value
-value-errs {x} store f e h k = rw (← e) (simp (lt-ltb x 4294967296 h, k))
-
-pub value_acts : {x n : ℕ} {p s : List ℕ} {r : Next} {D : Did} (store : List ℕ) (f : ℕ → Acted) → did x p n ≡ D → 4294967296 ≤ x
-    → acted r s ≡ f x
-    → after r s p n ≡ on_value D store f
-unfolding on_value
-value_acts {x} {n} {p} store f e h k =
-    rw (← e) (simp (le-ltb x 4294967296 h) (ap (λ (a : Acted). after_acted a p n) k))

@@ -8,9 +8,10 @@
 ghost use Rattle.std.specs.Prelude.{◌≡◌, ◌<◌};
 ghost use Rattle.gil.specs.Numbers.{most_variables, most_inputs, most_locations};
 ghost use Rattle.machine_terms.specs.Mirror.{did};
-ghost use Rattle.machine_terms.specs.Laws.Engine.{fresh_in};
+ghost use Rattle.machine_terms.specs.Laws.Engine.{fresh_in, known_in};
 ghost use Rattle.machine_commands.specs.Mirror.{moved_in, with_location_in, with_input_in, locate_in, after, receive_in, act_in, step_in, start_in, start_store, goto_in, onward_in, put_in, word_in, zeros_in, vanish_command, command_in, fetch_in, acted, assign_in, jump_in, enter_in, leave_in};
 
+use gil::errors::Error;
 use gil::limits::{MOST_FRAMES, MOST_INPUTS, MOST_LOCATIONS, MOST_VARIABLES};
 use gil::numbers;
 use machine_code::{
@@ -54,36 +55,37 @@ pub enum Next {
     Returned(u32, u32),
     Failed(u32, u32),
     Vanished,
-    Error(u32),
+    Error(Error),
     Fork(u32, Control, Control),
 }
 
 fn moved(c: Control, frame: u32, procedure: u32, command: u32) -> Control
     ensures { result ≡ moved_in c frame procedure command }
 {
-    let inputs = c.inputs;
-    let locations = c.locations;
     Control {
         frame,
         procedure,
         command,
-        inputs,
-        locations,
+        ..c
     }
 }
 
+#[tactic(auto, unfolding(crate::specs::Mirror::goto_in))]
 fn goto(c: Control, n: u32) -> Control
     ensures { result ≡ goto_in n c }
 {
     moved(c, c.frame, c.procedure, n)
 }
 
+#[tactic(auto, unfolding(crate::specs::Mirror::onward_in))]
 fn onward(c: Control) -> Control
     ensures { result ≡ onward_in c }
 {
     goto(c, std::num::wrapping_add_u32(c.command, 1))
 }
 
+// Not by `get_mut`, after which a proof does not know the words.
+#[tactic(auto, unfolding(crate::specs::Mirror::put_in))]
 fn put(store: &mut [u64; STORE_WORDS], at: usize, v: u64)
     ensures { store.new ≡ put_in at v store.old }
 {
@@ -92,17 +94,18 @@ fn put(store: &mut [u64; STORE_WORDS], at: usize, v: u64)
     }
 }
 
+#[tactic(auto, unfolding(crate::specs::Mirror::word_in))]
 fn word(store: &[u64; STORE_WORDS], at: usize) -> u32
     ensures { result ≡ word_in at store.now }
 {
-    if at < STORE_WORDS {
-        values::word(store[at])
-    } else {
-        0
+    match store.get(at) {
+        Some(&v) => values::word(v),
+        None => 0,
     }
 }
 
 // "`main` starts with its parameter at 0": where a path begins, and its store
+#[tactic(auto, unfolding(crate::specs::Mirror::start_in))]
 pub fn start(code: &[u32; CODE_WORDS]) -> Control
     ensures { result ≡ start_in code.now }
 {
@@ -115,6 +118,7 @@ pub fn start(code: &[u32; CODE_WORDS]) -> Control
     }
 }
 
+#[tactic(auto, unfolding(crate::specs::Mirror::start_store))]
 pub fn start_store() -> [u64; STORE_WORDS]
     ensures { result ≡ start_store }
 {
@@ -135,6 +139,7 @@ fn vanish() -> Command
     }
 }
 
+#[tactic(auto, unfolding(crate::specs::Mirror::command_in))]
 fn command_at(code: &[u32; CODE_WORDS], at: usize) -> Command
     ensures { result ≡ command_in code.now at }
 {
@@ -152,6 +157,7 @@ fn command_at(code: &[u32; CODE_WORDS], at: usize) -> Command
 }
 
 // The next command; `vanish` past the end of the procedure
+#[tactic(auto, unfolding(crate::specs::Mirror::fetch_in))]
 pub fn fetch(code: &[u32; CODE_WORDS], c: Control) -> Command
     ensures { result ≡ fetch_in code.now c.procedure c.command }
 {
@@ -167,6 +173,7 @@ pub fn fetch(code: &[u32; CODE_WORDS], c: Control) -> Command
     vanish()
 }
 
+#[tactic(auto, unfolding(crate::specs::Mirror::assign_in))]
 pub fn assign(c: Control, x: u32, v: u64, store: &mut [u64; STORE_WORDS]) -> Next
     ensures { acted result store.new ≡ assign_in c x v store.old }
 {
@@ -175,6 +182,7 @@ pub fn assign(c: Control, x: u32, v: u64, store: &mut [u64; STORE_WORDS]) -> Nex
 }
 
 // "`ifgoto` on true goes to n, on false to the next command"; a number term is error 2
+#[tactic(auto, unfolding(crate::specs::Mirror::jump_in))]
 fn jump(c: Control, n: u32, v: u64) -> Next
     ensures { result ≡ jump_in c n v }
 {
@@ -188,26 +196,25 @@ fn jump(c: Control, n: u32, v: u64) -> Next
     if tag == numbers::BOOLEAN_TERM_TAG {
         return Next::Fork(values::word(v), goto(c, n), onward(c));
     }
-    Next::Error(numbers::WRONG_SORT)
+    Next::Error(Error::WrongSort)
 }
 
 fn clear(store: &mut [u64; STORE_WORDS], base: usize)
     requires { base < 100000000000 }
     ensures { store.new ≡ zeros_in most_variables base store.old }
 {
-    let mut i: usize = 0;
-    while i < MOST_VARIABLES {
+    for i in 0..MOST_VARIABLES {
         put(store, base + i, 0);
-        i += 1;
     }
 }
 
 // "A call .. opens a frame in which only the parameter is bound"
+#[tactic(auto, unfolding(crate::specs::Mirror::enter_in, crate::specs::Mirror::frame_in))]
 fn enter(c: Control, x: u32, f: u32, v: u64, store: &mut [u64; STORE_WORDS]) -> Next
     ensures { acted result store.new ≡ enter_in c x f v store.old }
 {
     if LAST_FRAME <= c.frame {
-        return Next::Error(numbers::NINTH_FRAME);
+        return Next::Error(Error::NinthFrame);
     }
     let base = FRAME_WORDS * (c.frame as usize + 1);
     clear(store, base);
@@ -219,6 +226,7 @@ fn enter(c: Control, x: u32, f: u32, v: u64, store: &mut [u64; STORE_WORDS]) -> 
 }
 
 // "return in the first frame ends the run, in any other it assigns to the caller's variable and goes on after the call"
+#[tactic(auto, unfolding(crate::specs::Mirror::leave_in))]
 fn leave(c: Control, v: u64, store: &mut [u64; STORE_WORDS]) -> Next
     ensures { acted result store.new ≡ leave_in c v store.old }
 {
@@ -237,13 +245,9 @@ fn with_location(c: Control) -> Control
     requires { c.locations.0 < most_locations }
     ensures { result ≡ with_location_in c }
 {
-    let inputs = c.inputs;
     Control {
-        frame: c.frame,
-        procedure: c.procedure,
-        command: c.command,
-        inputs,
         locations: Location(c.locations.0 + 1),
+        ..c
     }
 }
 
@@ -251,70 +255,65 @@ fn with_input(c: Control) -> Control
     requires { c.inputs.0 < most_inputs }
     ensures { result ≡ with_input_in c }
 {
-    let locations = c.locations;
     Control {
-        frame: c.frame,
-        procedure: c.procedure,
-        command: c.command,
         inputs: Input(c.inputs.0 + 1),
-        locations,
+        ..c
     }
 }
 
 // "`uSym` gives the next location of this path"
+#[tactic(auto, unfolding(crate::specs::Mirror::locate_in))]
 fn locate(c: Control, x: u32, store: &mut [u64; STORE_WORDS]) -> Next
     ensures { acted result store.new ≡ locate_in c x store.old }
 {
     if MOST_LOCATIONS <= c.locations.0 {
-        return Next::Error(numbers::SEVENTEENTH_LOCATION);
+        return Next::Error(Error::SeventeenthLocation);
     }
     let l = c.locations;
     assign(with_location(c), x, values::located(l), store)
 }
 
+#[tactic(auto, unfolding(machine_terms::specs::Laws::Engine::fresh_in))]
 fn input(
-    known: bool,
-    inputs: &[u32; MOST_INPUTS as usize],
+    known: Option<&[u32; MOST_INPUTS as usize]>,
     i: Input,
     pool: &mut [u8],
     count: &mut u32,
 ) -> u64
     requires { i.0 < most_inputs }
-    ensures { did result pool.new count.new ≡ fresh_in known inputs.now i.0 pool.old count.old }
+    ensures { did result pool.new count.new ≡ fresh_in (known_in known.entry) i.0 pool.old count.old }
 {
-    if known {
-        let k = i.0 as usize;
-        return values::number(inputs[k]);
+    match known {
+        Some(inputs) => values::number(inputs[i.0 as usize]),
+        None => terms::input(pool, count, i),
     }
-    terms::input(pool, count, i)
 }
 
 // "`iSym` the next input": known, or a term
+#[tactic(auto, unfolding(crate::specs::Mirror::receive_in))]
 fn receive(
     c: Control,
     x: u32,
-    known: bool,
-    inputs: &[u32; MOST_INPUTS as usize],
+    known: Option<&[u32; MOST_INPUTS as usize]>,
     store: &mut [u64; STORE_WORDS],
     pool: &mut [u8],
     count: &mut u32,
 ) -> Next
-    ensures { after result store.new pool.new count.new ≡ receive_in c x known inputs.now store.old pool.old count.old }
+    ensures { after result store.new pool.new count.new ≡ receive_in c x (known_in known.entry) store.old pool.old count.old }
 {
     if MOST_INPUTS <= c.inputs.0 {
-        return Next::Error(numbers::SEVENTEENTH_INPUT);
+        return Next::Error(Error::SeventeenthInput);
     }
-    let i = c.inputs;
-    let v = input(known, inputs, i, pool, count);
+    let v = input(known, c.inputs, pool, count);
     assign(with_input(c), x, v, store)
 }
 
 // A command whose expression has the value v
+#[tactic(auto, unfolding(crate::specs::Mirror::act_in))]
 fn act(c: Control, m: Command, v: u64, store: &mut [u64; STORE_WORDS]) -> Next
     ensures { acted result store.new ≡ act_in c m v store.old }
 {
-    let kind = m.kind;
-    match kind {
+    match m.kind {
         ASSIGN_KIND => assign(c, m.target, v, store),
         JUMP_KIND => jump(c, m.target, v),
         CALL_KIND => enter(c, m.target, m.other, v, store),
@@ -324,29 +323,25 @@ fn act(c: Control, m: Command, v: u64, store: &mut [u64; STORE_WORDS]) -> Next
 }
 
 // One command that is no action on cells
+#[tactic(auto, unfolding(crate::specs::Mirror::step_in, crate::specs::Mirror::on_value))]
 pub fn step(
     code: &[u32; CODE_WORDS],
     c: Control,
     m: Command,
-    known: bool,
-    inputs: &[u32; MOST_INPUTS as usize],
+    known: Option<&[u32; MOST_INPUTS as usize]>,
     store: &mut [u64; STORE_WORDS],
     pool: &mut [u8],
     count: &mut u32,
 ) -> Next
-    ensures { after result store.new pool.new count.new ≡ step_in code.now c m known inputs.now store.old pool.old count.old }
+    ensures { after result store.new pool.new count.new ≡ step_in code.now c m (known_in known.entry) store.old pool.old count.old }
 {
-    let kind = m.kind;
-    match kind {
+    match m.kind {
         USYM_KIND => locate(c, m.target, store),
-        ISYM_KIND => receive(c, m.target, known, inputs, store, pool, count),
+        ISYM_KIND => receive(c, m.target, known, store, pool, count),
         VANISH_KIND => Next::Vanished,
-        _ => {
-            let v = evaluate::value(code, m.first, store, c.frame, pool, count);
-            if v < VALUES {
-                return Next::Error(values::word(v));
-            }
-            act(c, m, v, store)
-        }
+        _ => match evaluate::value(code, m.first, store, c.frame, pool, count) {
+            Ok(v) => act(c, m, v, store),
+            Err(e) => Next::Error(e),
+        },
     }
 }

@@ -1,10 +1,7 @@
 -- `commands::clear` meets its contract. Assumes nothing.
-use Rattle.std.proofs.Common.{◌≡◌, ◌+◌, ◌-◌, ◌≤◌}
+use Rattle.std.proofs.Common.{◌≡◌, ◌+◌, ◌-◌}
 use Rattle.machine_commands.specs.Mirror.{zeros_in}
 use Rattle.machine_commands.proofs.clear.Given as goal
 
 abbrev pub invariant-loop-i : goal.invariant-loop-i
-invariant-loop-i l = (zeros_in 16 l.base l.initial.store ≡ zeros_in (16 - l.i) (l.base + l.i) l.store) × (l.i ≤ 16)
-
-abbrev pub decreases-loop-i : goal.decreases-loop-i
-decreases-loop-i l = 16 - l.i
+invariant-loop-i l = zeros_in 16 l.base l.initial.store ≡ zeros_in (16 - l.i) (l.base + l.i) l.store

@@ -1,14 +1,11 @@
 -- Each action on the memory over words is that action of document 01's machine, its answer assigned: one law an action, which a change of
 -- the action edits. Before them, that an action's first operand is a location. Assumes nothing.
-use Rattle.std.specs.Prelude.{ℕ, ◌+◌, ◌/◌, ◌%◌, ◌<◌, ◌≤◌, Bool, ◌≡◌, List, ltb, leb, eqb}
-use Rattle.std.proofs.Math.Bool.{true, false}
-use Rattle.std.proofs.Math.Path.{refl, ap}
-use Rattle.std.proofs.Common.{◌∙◌, arith}
+use Rattle.std.specs.Prelude.{ℕ, ◌+◌, ◌/◌, ◌%◌, ◌<◌, ◌≤◌, Bool, true, false, ◌≡◌, refl, List, length, ltb, leb, eqb}
+use Rattle.std.proofs.Common.{◌∙◌, ap, add-one, arith, ne_eqb, lt-ltb, le-ltb, le-leb, ltb-true, ltb-false}
+use Rattle.std.proofs.lemmas.Bool.{lt-leb, leb-true, leb-false}
 use Rattle.std.proofs.Math.Option.{Option}
-use Rattle.std.proofs.Math.Numerals.{add-one}
-use Rattle.std.proofs.Math.ListN.{length}
-use borrow.Author.Tests.{ne_eqb, lt-ltb, le-ltb, le-leb, lt-leb, ltb-true, ltb-false, leb-true, leb-false}
 use Rattle.gil.specs.Numbers.{most_variables, most_inputs, most_locations, most_cells, wrong_sort, no_such_cell, seventeenth_input, seventeenth_location, thirty_third_cell, location_tag}
+use Rattle.gil.specs.declared.errors.Error.TheVariants.{WrongSort, NoSuchCell, SeventeenthInput, SeventeenthLocation, ThirtyThirdCell}
 use Rattle.gil.specs.Names.{Program}
 use Rattle.gil.specs.Values.{Value, const, term, boolean, location}
 use Rattle.gil.specs.Values as Values
@@ -19,16 +16,16 @@ use Rattle.machine_values.specs.declared.Location.{Location}
 use Rattle.machine_code.specs.Mirror.{if?}
 use Rattle.machine_values.specs.Mirror.{truth_word}
 use Rattle.machine_values.specs.Laws.{a_number, a_truth, a_location}
-use Rattle.machine_terms.specs.Laws.Engine.{Engine, const_as, term_as, MadeAs, As, value_low, fresh_in}
-use Rattle.machine_evaluate.specs.Laws.{SlotAs, unbound, bound}
-use Rattle.machine_cells.specs.Mirror.{found_in}
+use Rattle.machine_terms.specs.Laws.Engine.{Engine, const_as, term_as, MadeAs, As, fresh_in}
+use Rattle.machine_cells.specs.Laws.Served.{value_or, looked_in}
 use Rattle.machine_commands.specs.declared.Control.{Control}
 use Rattle.machine_commands.specs.declared.Command.{Command}
 use Rattle.machine_commands.specs.declared.Next.TheVariants.{Error}
 use Rattle.machine_commands.specs.Mirror.{acted, assign_in, locate_in, after_acted, receive_in}
+use Rattle.machine_actions.specs.Mirror.{told_in}
 use Rattle.machine_actions.specs.Laws.Changed.{look_at, keeping, mutate_at, dispose_at, changed, put-length}
 use Rattle.machine_laws.specs.Laws.State.{CellsAs, MemoryAs}
-use Rattle.machine_laws.specs.Laws.Memory.{find_as, put_as, without_as, cells-length}
+use Rattle.machine_laws.specs.Laws.Memory.{FoundAs, finds_none, finds, find_as, put_as, without_as, cells-length}
 use Rattle.machine_laws.specs.Laws.Moves.{StateAs, SteppedAs, ChangedAs, erred, went, answered_as, tag_low}
 
 -- memories changed
@@ -83,15 +80,13 @@ module _ {M : Model} (E : Engine M) (p : Program) {s : State M.Term} {c : Contro
   here x = x < (procedure_at p s.control.procedure).variables
 
   -- `lookup`
-  found_as : {w : M.World} {pool : List ℕ} {count : ℕ} {o : Option (Value M.Term)} {y : ℕ} (x : ℕ) → here x → E.WorldAs w pool count
-      → SlotAs E.TermAs o y
+  found_as : {w : M.World} {pool : List ℕ} {count : ℕ} {o : Option (Value M.Term)} {o' : Option (Value ℕ)} (x : ℕ) → here x → E.WorldAs w pool count
+      → FoundAs E.TermAs o o'
       → SteppedAs E p store ds (answering x (there o no_such_cell >>= (λ v. give (record { value = v; memory = s.memory }))) w)
-      (after_acted (if? (eqb y 0) (acted (Error no_such_cell) store) (assign_in c x y store)) pool count)
+      (after_acted (told_in c x store (value_or NoSuchCell o')) pool count)
   unfolding there stop give and_then ◌>>=◌ assign_in
-  found_as x hx world unbound = erred E p no_such_cell world
-  found_as x hx world (bound {x = y} a) =
-      simp (ne_eqb y 0 (λ e. absurd (omega (arith, value_low E a))))
-      (went E p world (answered_as E p h few small c.inputs c.locations x hx a h.memory))
+  found_as x hx world finds_none = erred E p NoSuchCell world
+  found_as x hx world (finds a) = went E p world (answered_as E p h few small c.inputs c.locations x hx a h.memory)
 
   pub look_as : {w : M.World} {v : Value M.Term} {y : ℕ} {pool : List ℕ} {count : ℕ} (m : Command) → here m.target → E.WorldAs w pool count
       → As E v y
@@ -100,10 +95,10 @@ module _ {M : Model} (E : Engine M) (p : Program) {s : State M.Term} {c : Contro
   unfolding looked_up look_at
   look_as {w} {pool = pool} {count = count} m hx world a =
       at-location E (λ r d. SteppedAs E p store ds r (after_acted d pool count)) _
-      (λ l. let y = found_in (cell_at l m.other ds) in if? (eqb y 0) (acted (Error no_such_cell) store) (assign_in c m.target y store))
-      (acted (Error wrong_sort) store) w a
+      (λ l. told_in c m.target store (looked_in l m.other ds))
+      (acted (Error WrongSort) store) w a
       (λ l. found_as m.target hx world (find_as E.TermAs l m.other h.memory.cells))
-      (erred E p wrong_sort world)
+      (erred E p WrongSort world)
 
   -- `mutate`
   written-by : {w : M.World} {u : Value M.Term} {z : ℕ} {pool : List ℕ} {count : ℕ} (x l q : ℕ) (b : Bool)
@@ -114,7 +109,7 @@ module _ {M : Model} (E : Engine M) (p : Program) {s : State M.Term} {c : Contro
       → ChangedAs E p store ds
       (answering x (must b thirty_third_cell >> give (record { value = const (boolean true); memory = with_cells (put_cell l q u s.memory.cells) s.memory })) w)
       (changed
-      (if? (ltb most_cells (length (put_cell l q (term 0) ds))) (keeping (acted (Error thirty_third_cell) store) ds)
+      (if? (ltb most_cells (length (put_cell l q (term 0) ds))) (keeping (acted (Error ThirtyThirdCell) store) ds)
       (keeping (assign_in c x 8589934593 store) (put_cell l q (term z) ds)))
       pool count)
   unfolding must stop give and_then ◌>>◌ ◌>>=◌ assign_in truth_word
@@ -128,7 +123,7 @@ module _ {M : Model} (E : Engine M) (p : Program) {s : State M.Term} {c : Contro
       let cs = put_as E.TermAs l q a h.memory.cells in
       let over : most_cells < length (put_cell l q (term 0) ds) =
       omega (arith, leb-false (length (put_cell l q u s.memory.cells)) most_cells e, cells-length E.TermAs cs, put-length l q (term 0) (term z) ds) in
-      simp (lt-ltb most_cells (length (put_cell l q (term 0) ds)) over) (erred E p thirty_third_cell world)
+      simp (lt-ltb most_cells (length (put_cell l q (term 0) ds)) over) (erred E p ThirtyThirdCell world)
 
   pub mutate_as : {w : M.World} {v u : Value M.Term} {y z : ℕ} {pool : List ℕ} {count : ℕ} (m : Command) → here m.target
       → E.WorldAs w pool count
@@ -140,11 +135,11 @@ module _ {M : Model} (E : Engine M) (p : Program) {s : State M.Term} {c : Contro
   mutate_as {w} {u = u} {z = z} {pool = pool} {count = count} m hx world a b =
       at-location E (λ r d. ChangedAs E p store ds r (changed d pool count)) _
       (λ l.
-      if? (ltb most_cells (length (put_cell l m.other (term 0) ds))) (keeping (acted (Error thirty_third_cell) store) ds)
+      if? (ltb most_cells (length (put_cell l m.other (term 0) ds))) (keeping (acted (Error ThirtyThirdCell) store) ds)
       (keeping (assign_in c m.target 8589934593 store) (put_cell l m.other (term z) ds)))
-      (keeping (acted (Error wrong_sort) store) ds) w a
+      (keeping (acted (Error WrongSort) store) ds) w a
       (λ l. written-by m.target l m.other (leb (length (put_cell l m.other u s.memory.cells)) most_cells) refl hx world b)
-      (erred E p wrong_sort world)
+      (erred E p WrongSort world)
 
   -- `dispose`
   dropped_as : {w : M.World} {pool : List ℕ} {count : ℕ} (x l : ℕ) → here x → E.WorldAs w pool count
@@ -165,9 +160,9 @@ module _ {M : Model} (E : Engine M) (p : Program) {s : State M.Term} {c : Contro
   dispose_as {w} {pool = pool} {count = count} m hx world a =
       at-location E (λ r d. ChangedAs E p store ds r (changed d pool count)) _
       (λ l. keeping (assign_in c m.target 8589934593 store) (without_cells l ds))
-      (keeping (acted (Error wrong_sort) store) ds) w a
+      (keeping (acted (Error WrongSort) store) ds) w a
       (λ l. dropped_as m.target l hx world)
-      (erred E p wrong_sort world)
+      (erred E p WrongSort world)
 
   -- `uSym`
   located_by : {w : M.World} {pool : List ℕ} {count : ℕ} (x : ℕ) (b : Bool) → ltb s.memory.counters.locations most_locations ≡ b → here x
@@ -185,7 +180,7 @@ module _ {M : Model} (E : Engine M) (p : Program) {s : State M.Term} {c : Contro
       (went E p world (answered_as E p h few small c.inputs (record { 0 = c.locations.0 + 1 }) x hx a (with_location_lem h.memory)))
   located_by x false e hx world =
       let many : most_locations ≤ c.locations.0 = omega (arith, h.memory.locations, ltb-false s.memory.counters.locations most_locations e) in
-      simp (le-leb most_locations c.locations.0 many) (erred E p seventeenth_location world)
+      simp (le-leb most_locations c.locations.0 many) (erred E p SeventeenthLocation world)
 
   pub locate_as : {w : M.World} {pool : List ℕ} {count : ℕ} (x j : ℕ) → here x → E.WorldAs w pool count
       → SteppedAs E p store ds (answering x (fresh_location M j s.memory) w) (after_acted (locate_in c x store) pool count)
@@ -200,20 +195,20 @@ module _ {M : Model} (E : Engine M) (p : Program) {s : State M.Term} {c : Contro
       (must b seventeenth_input
       >> (making M (Values.input s.memory.counters.inputs) >>= (λ v. give (record { value = v; memory = counting with_input s.memory }))))
       w)
-      (receive_in c x E.known E.inputs store pool count)
+      (receive_in c x E.known store pool count)
   unfolding must stop give and_then ◌>>◌ ◌>>=◌ making receive_in assign_in
   received_by {w} {pool} {count} x true e hx world =
       let n = s.memory.counters.inputs in
       let few' : c.inputs.0 < most_inputs = omega (arith, h.memory.inputs, ltb-true n 16 e) in
-      let k : MadeAs E.TermAs E.WorldAs (M.make w (Values.input n)) (fresh_in E.known E.inputs c.inputs.0 pool count) =
+      let k : MadeAs E.TermAs E.WorldAs (M.make w (Values.input n)) (fresh_in E.known c.inputs.0 pool count) =
       rw h.memory.inputs (E.makes_input n (ltb-true n 16 e) world) in
       simp (lt-leb most_inputs c.inputs.0 few')
       (went E p k.world (answered_as E p h few small (record { 0 = c.inputs.0 + 1 }) c.locations x hx k.value (with_input_lem h.memory)))
   received_by x false e hx world =
       let many : most_inputs ≤ c.inputs.0 = omega (arith, h.memory.inputs, ltb-false s.memory.counters.inputs most_inputs e) in
-      simp (le-leb most_inputs c.inputs.0 many) (erred E p seventeenth_input world)
+      simp (le-leb most_inputs c.inputs.0 many) (erred E p SeventeenthInput world)
 
   pub receive_as : {w : M.World} {pool : List ℕ} {count : ℕ} (x j : ℕ) → here x → E.WorldAs w pool count
-      → SteppedAs E p store ds (answering x (fresh_input M j s.memory) w) (receive_in c x E.known E.inputs store pool count)
+      → SteppedAs E p store ds (answering x (fresh_input M j s.memory) w) (receive_in c x E.known store pool count)
   unfolding fresh_input
   receive_as x j hx world = received_by x (ltb s.memory.counters.inputs most_inputs) refl hx world

@@ -1,40 +1,29 @@
 -- The engine is document 01's machine: over a well-formed program's words, from a state that stands in words, one command is one `move`. For
 -- the plain run's model (terms' Plain) and for the pool's (terms' Pooled); in the plain run there is no term, so nothing is made and no fork
 -- is taken. Assumes nothing.
-use Rattle.std.specs.Prelude.{ℕ, ◌+◌, ◌<◌, ◌≤◌, Bool, ◌≡◌, ltb, eqb}
-use Rattle.std.proofs.Math.Bool.{true, false}
-use Rattle.std.proofs.Math.Path.{refl, sym, ap, subst}
-use Rattle.std.proofs.Common.{◌∙◌, ap₂, arith, drop-drop}
-use mathlib.Core.List.{List, [], ◌++◌, append_assoc}
-use Rattle.std.proofs.Math.ListN.{length, get_or, drop, get_or-eq_default}
+use Rattle.std.specs.Prelude.{ℕ, ◌+◌, ◌<◌, ◌≤◌, Bool, true, false, ◌≡◌, refl, List, [], ◌++◌, length, get_or, drop, ltb}
+use Rattle.std.proofs.Common.{◌∙◌, sym, ap, ap₂, subst, arith, drop-drop, ltb-true, ltb-false}
+use mathlib.Core.List.{append_assoc}
+use Rattle.std.proofs.Math.ListN.{get_or-eq_default}
 use Rattle.std.proofs.Math.Seq.{drop-append_seam}
-use borrow.Author.Tests.{ltb-true, ltb-false}
 use Rattle.gil.specs.Numbers.{most_variables, most_frames}
 use Rattle.gil.specs.Tree.{Expr, Cmd, lookup, mutate, dispose, vanish}
 use Rattle.gil.specs.Names.{Procedure, Program}
 use Rattle.gil.specs.Machine as Machine
 use Rattle.gil.specs.Machine.{Model, State, move, settled, exec, eval, give, procedure_at, command_at, frames, ◌>>=◌, ◌>>◌}
-use Rattle.machine_code.specs.Code.{expr_words, cmd_nodes, cmd_words, program_words, lookup_kind, mutate_kind, dispose_kind}
+use Rattle.machine_code.specs.Code.{expr_words, cmd_nodes, cmd_words, program_words}
 use Rattle.machine_code.specs.WellFormed.{ExprFits, CmdFits, an_assign, a_jump, a_call, a_lookup, a_mutate, a_dispose, a_u_sym, an_i_sym, a_return, a_fail, a_vanish, WellFormed}
-use Rattle.machine_code.specs.Mirror.{if?}
 use Rattle.machine_terms.specs.Laws.Engine.{Engine, EvalAs}
 use Rattle.machine_evaluate.specs.Mirror.{evaluate_in}
 use Rattle.machine_evaluate.specs.Laws.{evaluate_as}
 use Rattle.machine_commands.specs.declared.Control.{Control}
 use Rattle.machine_commands.specs.declared.Command.{Command}
 use Rattle.machine_commands.specs.Mirror.{vanish_command, fetch_in, act_in, step_in}
-use Rattle.machine_actions.specs.Laws.Changed.{lookup_in, Changed, of_after, mutate_second, mutate_in, dispose_in, change_in}
+use Rattle.machine_actions.specs.Laws.Changed.{lookup_in, mutate_second, mutate_in, dispose_in, change_in, engine_in}
 use Rattle.machine_laws.specs.Laws.State.{top}
 use Rattle.machine_laws.specs.Laws.Moves.{StateAs, has_failed, has_vanished, MovedAs, ChangedAs, value_as, operand_as, assign_as, jump_as, enter_by, leave_as}
 use Rattle.machine_laws.specs.Laws.Actions.{look_as, mutate_as, dispose_as, locate_as, receive_as}
 use Rattle.machine_laws.specs.Laws.Words.{of_words, program-length, procedure-fits, body-few, past_end, fetch_as}
-
--- the engine's move: Changed's `lookup_in` and `change_in` for the actions on cells, and `step` for every other command
-unfoldable pub engine_in : List ℕ → Control → Command → Bool → List ℕ → List (Machine.Cell ℕ) → List ℕ → List ℕ → ℕ → Changed
-engine_in code c m known inputs ds store pool count =
-    if? (eqb m.kind lookup_kind) (of_after (lookup_in code c m ds store pool count) ds)
-    (if? (eqb m.kind mutate_kind) (change_in code c m ds store pool count)
-    (if? (eqb m.kind dispose_kind) (change_in code c m ds store pool count) (of_after (step_in code c m known inputs store pool count) ds)))
 
 -- every procedure has at most 16 variables; where there is none, none
 few-by : (p : Program) → WellFormed p → (g : ℕ) (b : Bool) → ltb g (length p.procedures) ≡ b → (procedure_at p g).variables ≤ most_variables
@@ -71,7 +60,7 @@ module _ {M : Model} (E : Engine M) (p : Program) (ok : WellFormed p) {s : State
         → (w : M.World) (pool : List ℕ) (count : ℕ)
         → E.WorldAs w pool count
         → ChangedAs E p store ds (exec M p s cmd w)
-        (engine_in (program_words p) c (of_words (cmd_words at cmd)) E.known E.inputs ds store pool count)
+        (engine_in (program_words p) c (of_words (cmd_words at cmd)) E.known ds store pool count)
     unfolding exec cmd_nodes cmd_words engine_in step_in lookup_in change_in mutate_in mutate_second dispose_in act_in give ◌>>=◌ ◌>>◌ settled
     exec_as (an_assign {x} {e} hx fits) at rest nodes w pool count world =
         value_as E p _ _ (evaluated fits at rest nodes world) (λ w v y pool count world a. assign_as E p h few small x hx world a)
@@ -111,7 +100,7 @@ module _ {M : Model} (E : Engine M) (p : Program) (ok : WellFormed p) {s : State
 
   -- `vanish` past the end of a procedure
   vanish_as : (w : M.World) (pool : List ℕ) (count : ℕ) → E.WorldAs w pool count
-      → ChangedAs E p store ds (exec M p s vanish w) (engine_in (program_words p) c vanish_command E.known E.inputs ds store pool count)
+      → ChangedAs E p store ds (exec M p s vanish w) (engine_in (program_words p) c vanish_command E.known ds store pool count)
   unfolding exec engine_in step_in give settled
   vanish_as w pool count world = record { world = world; next = has_vanished }
 
@@ -119,7 +108,7 @@ module _ {M : Model} (E : Engine M) (p : Program) (ok : WellFormed p) {s : State
       → ltb s.control.command (length (procedure_at p s.control.procedure).body) ≡ b
       → E.WorldAs w pool count
       → ChangedAs E p store ds (exec M p s (command_at p s.control) w)
-      (engine_in (program_words p) c (fetch_in (program_words p) s.control.procedure s.control.command) E.known E.inputs ds store pool count)
+      (engine_in (program_words p) c (fetch_in (program_words p) s.control.procedure s.control.command) E.known ds store pool count)
   unfolding command_at
   move-by w pool count true e world =
       let f = s.control.procedure in
@@ -139,13 +128,13 @@ module _ {M : Model} (E : Engine M) (p : Program) (ok : WellFormed p) {s : State
 
   -- one command of the engine is one move of the machine
   pub move_as : (w : M.World) (pool : List ℕ) (count : ℕ) → E.WorldAs w pool count
-      → let k = engine_in (program_words p) c (fetch_in (program_words p) c.procedure c.command) E.known E.inputs ds store pool count in
+      → let k = engine_in (program_words p) c (fetch_in (program_words p) c.procedure c.command) E.known ds store pool count in
       MovedAs E p store ds (move M p w s) k.kept.next k.kept.store k.kept.cells k.pool k.count
   unfolding move
   move_as w pool count world =
       subst
       (λ (m : Command).
-      ChangedAs E p store ds (exec M p s (command_at p s.control) w) (engine_in (program_words p) c m E.known E.inputs ds store pool count))
+      ChangedAs E p store ds (exec M p s (command_at p s.control) w) (engine_in (program_words p) c m E.known ds store pool count))
       (sym (ap₂ (fetch_in (program_words p)) h.procedure h.command))
       (move-by w pool count (ltb s.control.command (length (procedure_at p s.control.procedure).body)) refl world)
 

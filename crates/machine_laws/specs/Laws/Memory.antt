@@ -1,14 +1,11 @@
 -- Cells found, put and taken out: over words and over values alike. Assumes nothing.
-use Rattle.std.specs.Prelude.{ℕ, suc, Bool, ◌≡◌, List, ◌∷◌, length, eqb}
-use Rattle.std.proofs.Math.Bool.{true, false}
-use Rattle.std.proofs.Math.Path.{refl, ap₂}
-use Rattle.std.proofs.Common.{ap}
+use Rattle.std.specs.Prelude.{ℕ, suc, Bool, true, false, ◌≡◌, refl, List, ◌∷◌, length, eqb}
+use Rattle.std.proofs.Common.{ap, ap₂}
+use Rattle.std.proofs.Math.Option.{Option, none, some}
 use Rattle.gil.specs.Values.{Value, term}
 use Rattle.gil.specs.Machine as Machine
 use Rattle.gil.specs.Machine.{is_at, is_before, cell_at, put_cell, without_cells}
 use Rattle.machine_terms.specs.Laws.Engine.{ValueAs}
-use Rattle.machine_evaluate.specs.Laws.{SlotAs, unbound, bound}
-use Rattle.machine_cells.specs.Mirror.{found_in}
 use Rattle.machine_cells.specs.Laws.InUse.{at_here, at-later, without_here, without_other}
 use Rattle.machine_laws.specs.Laws.State.{CellsAs, no_cells, a_cell}
 
@@ -29,22 +26,27 @@ module _ {T : Type 0} (TermAs : T → ℕ → Type 0) where
   cells-length no_cells = refl
   cells-length (a_cell p r) = ap suc (cells-length r)
 
+  -- what is found, over values and over words
+  pub data FoundAs : Option (Value T) → Option (Value ℕ) → Type 0 where
+    finds_none : FoundAs none none
+    finds : {v : Value T} {x : ℕ} → ValueAs TermAs v x → FoundAs (some v) (some (term x))
+
   module _ (l q : ℕ) where
     find-by : (k o : ℕ) {x : ℕ} {v : Value T} (cs : List (Machine.Cell T)) (ds : List (Machine.Cell ℕ)) (b : Bool)
         → is_at l q (cell {T = ℕ} k o (term x)) ≡ b
         → is_at l q (cell k o v) ≡ b
         → ValueAs TermAs v x
-        → SlotAs TermAs (cell_at l q cs) (found_in (cell_at l q ds))
-        → SlotAs TermAs (cell_at l q (cell k o v ∷ cs)) (found_in (cell_at l q (cell k o (term x) ∷ ds)))
+        → FoundAs (cell_at l q cs) (cell_at l q ds)
+        → FoundAs (cell_at l q (cell k o v ∷ cs)) (cell_at l q (cell k o (term x) ∷ ds))
     find-by k o {x} {v} cs ds true e f p r =
-        rw (at_here l q (cell k o v) cs f, at_here l q (cell k o (term x)) ds e) (bound p)
+        rw (at_here l q (cell k o v) cs f, at_here l q (cell k o (term x)) ds e) (finds p)
     find-by k o {x} {v} cs ds false e f p r =
         rw (at-later l q (cell k o v) cs f, at-later l q (cell k o (term x)) ds e) r
 
     pub find_as : {cs : List (Machine.Cell T)} {ds : List (Machine.Cell ℕ)} → CellsAs TermAs cs ds
-        → SlotAs TermAs (cell_at l q cs) (found_in (cell_at l q ds))
+        → FoundAs (cell_at l q cs) (cell_at l q ds)
     unfolding cell_at is_at
-    find_as no_cells = unbound
+    find_as no_cells = finds_none
     find_as (a_cell {l = k} {q = o} {x} {v} {cs} {ds} p r) = find-by k o cs ds (is_at l q (cell {T = ℕ} k o (term x))) refl refl p (find_as r)
 
     module _ {u : Value T} {y : ℕ} (new : ValueAs TermAs u y) where

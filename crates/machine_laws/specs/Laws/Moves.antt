@@ -1,14 +1,13 @@
 -- How a state stands in words, whole; and each command over words that is no action on the memory is that command of document 01's
 -- machine: from a state that stands in words to what stands in words again. The actions are Actions'. Assumes nothing.
-use Prim.Native.Nat.{ℕ, suc, ◌+◌, ◌-◌, ◌*◌, ◌/◌, ◌%◌, ◌<◌, ◌≤◌}
-use Rattle.std.specs.Prelude.{Bool, ◌≡◌, refl, List, length, get_or, ltb}
-use Rattle.std.proofs.Math.Bool.{true, false}
-use Rattle.std.proofs.Common.{◌∙◌, ap, add-one}
-use Rattle.std.proofs.Math.Nat.{mod-eq_of_lt}
-use native.Mathlib.Omega.{arith}
-use Rattle.std.proofs.Math.ListN.{length-set}
-use borrow.Author.Tests.{eq-eqb, ne_eqb, lt-ltb, le-ltb, le-leb, lt-leb, ltb-true, ltb-false}
+use Rattle.std.specs.Prelude as Std
+use Rattle.std.specs.Prelude.{ℕ, suc, ◌+◌, ◌-◌, ◌*◌, ◌/◌, ◌%◌, ◌<◌, ◌≤◌, Bool, true, false, ◌≡◌, refl, List, length, get_or, ltb}
+use Rattle.std.proofs.Common.{◌∙◌, ap, add-one, mod-eq_of_lt, arith, length-set, eq-eqb, ne_eqb, lt-ltb, le-leb, ltb-true, ltb-false}
+use Rattle.std.proofs.lemmas.Bool.{lt-leb}
 use Rattle.gil.specs.Numbers.{most_procedures, most_variables, most_frames, wrong_sort, ninth_frame, boolean_tag, boolean_term_tag}
+use Rattle.gil.specs.declared.errors.Error as Errors
+use Rattle.gil.specs.declared.errors.Error.TheVariants.{WrongSort, NinthFrame}
+use Rattle.gil.specs.Codes.{error_number}
 use Rattle.gil.specs.Names.{Program}
 use Rattle.gil.specs.Values.{Value, Sort, numbers, booleans, locations, same_sort}
 use Rattle.gil.specs.Machine as Machine
@@ -19,7 +18,7 @@ use Rattle.machine_values.specs.declared.Location.{Location}
 use Rattle.machine_values.specs.Mirror.{truth_word}
 use Rattle.machine_values.specs.Laws.{a_number, a_truth, a_location}
 use Rattle.machine_terms.specs.Mirror.{Did}
-use Rattle.machine_terms.specs.Laws.Engine.{Engine, const_as, term_as, TermTag, tags_number, tags_boolean, As, EvalAs, gives, errs, value_low}
+use Rattle.machine_terms.specs.Laws.Engine.{Engine, const_as, term_as, TermTag, tags_number, tags_boolean, As, EvalAs, gives, errs}
 use Rattle.machine_commands.specs.declared.Control.{Control}
 use Rattle.machine_commands.specs.declared.Next.{Next}
 use Rattle.machine_commands.specs.declared.Next.TheVariants.{On, Returned, Failed, Vanished, Error, Fork}
@@ -51,7 +50,7 @@ module _ {M : Model} (E : Engine M) (p : Program) where
     has_returned : {v : Value M.Term} {x : ℕ} → As E v x → NextAs store ds (ends (returned v)) (Returned (x / 4294967296) (x % 4294967296)) store ds
     has_failed : {v : Value M.Term} {x : ℕ} → As E v x → NextAs store ds (ends (failed v)) (Failed (x / 4294967296) (x % 4294967296)) store ds
     has_vanished : NextAs store ds (ends vanished) Vanished store ds
-    has_erred : {n : ℕ} → NextAs store ds (ends (error n)) (Error n) store ds
+    has_erred : (e : Errors.Error) → NextAs store ds (ends (error (error_number e))) (Error e) store ds
     has_forked :
         {t : M.Term} {x : ℕ} {a b : State M.Term} {ca cb : Control}
         → E.TermAs t x
@@ -71,10 +70,10 @@ module _ {M : Model} (E : Engine M) (p : Program) where
   abbrev pub ChangedAs : List ℕ → List (Machine.Cell ℕ) → Result M.World (Machine.Next M.Term) → Changed → Type 0
   ChangedAs store ds r k = MovedAs store ds (settled M r) k.kept.next k.kept.store k.kept.cells k.pool k.count
 
-  pub erred : {store : List ℕ} {ds : List (Machine.Cell ℕ)} {w : M.World} {pool : List ℕ} {count : ℕ} (n : ℕ) → E.WorldAs w pool count
-      → SteppedAs store ds (err w n) (after (Error n) store pool count)
+  pub erred : {store : List ℕ} {ds : List (Machine.Cell ℕ)} {w : M.World} {pool : List ℕ} {count : ℕ} (e : Errors.Error) → E.WorldAs w pool count
+      → SteppedAs store ds (err w (error_number e)) (after (Error e) store pool count)
   unfolding settled
-  erred n h = record { world = h; next = has_erred }
+  erred e h = record { world = h; next = has_erred e }
 
   pub went : {store store' : List ℕ} {ds ds' : List (Machine.Cell ℕ)} {w : M.World} {pool : List ℕ} {count : ℕ} {s : State M.Term} {c : Control}
       → E.WorldAs w pool count
@@ -84,31 +83,25 @@ module _ {M : Model} (E : Engine M) (p : Program) where
   went h a = record { world = h; next = goes_on a }
 
   -- an operand evaluated, and what is done with its value
-  pub value_as : {store : List ℕ} {ds : List (Machine.Cell ℕ)} {r : Result M.World (Value M.Term)} {d : Did}
+  pub value_as : {store : List ℕ} {ds : List (Machine.Cell ℕ)} {r : Result M.World (Value M.Term)} {d : Did (Std.Result ℕ Errors.Error)}
       (f : Value M.Term → M.World → Result M.World (Machine.Next M.Term)) (g : ℕ → Acted)
       → EvalAs E r d
       → ((w : M.World) (v : Value M.Term) (x : ℕ) (pool : List ℕ) (count : ℕ) → E.WorldAs w pool count → As E v x
       → SteppedAs store ds (f v w) (after_acted (g x) pool count))
       → SteppedAs store ds (and_then r f) (on_value d store g)
   unfolding and_then on_value
-  value_as {d} f g (gives {w} {v} h a) k = simp (le-ltb d.out 4294967296 (value_low E a)) (k w v d.out d.pool d.count h a)
-  value_as {d} f g (errs {n} h e few) k =
-      let small : d.out < 4294967296 = rw e few in
-      let same : d.out % 4294967296 ≡ n = mod-eq_of_lt small ∙ e in
-      simp (lt-ltb d.out 4294967296 small, same) (erred n h)
+  value_as f g (gives {w} {v} {x} {pool} {count} h a) k = k w v x pool count h a
+  value_as f g (errs e h) k = erred e h
 
-  pub operand_as : {store : List ℕ} {ds : List (Machine.Cell ℕ)} {r : Result M.World (Value M.Term)} {d : Did}
+  pub operand_as : {store : List ℕ} {ds : List (Machine.Cell ℕ)} {r : Result M.World (Value M.Term)} {d : Did (Std.Result ℕ Errors.Error)}
       (f : Value M.Term → M.World → Result M.World (Machine.Next M.Term)) (g : ℕ → List ℕ → ℕ → Changed)
       → EvalAs E r d
       → ((w : M.World) (v : Value M.Term) (x : ℕ) (pool : List ℕ) (count : ℕ) → E.WorldAs w pool count → As E v x
       → ChangedAs store ds (f v w) (g x pool count))
       → ChangedAs store ds (and_then r f) (on_operand d store ds g)
   unfolding and_then on_operand
-  operand_as {d} f g (gives {w} {v} h a) k = simp (le-ltb d.out 4294967296 (value_low E a)) (k w v d.out d.pool d.count h a)
-  operand_as {d} f g (errs {n} h e few) k =
-      let small : d.out < 4294967296 = rw e few in
-      let same : d.out % 4294967296 ≡ n = mod-eq_of_lt small ∙ e in
-      simp (lt-ltb d.out 4294967296 small, same) (erred n h)
+  operand_as f g (gives {w} {v} {x} {pool} {count} h a) k = k w v x pool count h a
+  operand_as f g (errs e h) k = erred e h
 
   module _ {s : State M.Term} {c : Control} {store : List ℕ} {ds : List (Machine.Cell ℕ)} (h : StateAs s c store ds) where
     -- control that moves within a procedure
@@ -182,7 +175,7 @@ module _ {M : Model} (E : Engine M) (p : Program) where
           (after (jump_in c n y) store pool count)
       unfolding must same_sort stop give and_then ◌>>◌ jump_in settled
       jump_term {y} n numbers (tags_number e) world a =
-          simp (ne_eqb (y / 4294967296) boolean_tag (λ f. absurd (omega arith)), ne_eqb (y / 4294967296) boolean_term_tag (λ f. absurd (omega arith))) (erred wrong_sort world)
+          simp (ne_eqb (y / 4294967296) boolean_tag (λ f. absurd (omega arith)), ne_eqb (y / 4294967296) boolean_term_tag (λ f. absurd (omega arith))) (erred WrongSort world)
       jump_term {y} n booleans (tags_boolean e) world a =
           simp (ne_eqb (y / 4294967296) boolean_tag (λ f. absurd (omega arith)), eq-eqb (y / 4294967296) boolean_term_tag e)
           (record { world = world; next = has_forked a (goto_as n) (onward_as small) })
@@ -195,12 +188,12 @@ module _ {M : Model} (E : Engine M) (p : Program) where
       unfolding jump jump_in stop give truth_word
       jump_as {y} n world (const_as (a_number {n = k} few)) =
           let e : (4294967296 + k) / 4294967296 ≡ 1 = omega arith in
-          simp e (erred wrong_sort world)
+          simp e (erred WrongSort world)
       jump_as n world (const_as (a_truth {b = true})) = went world (goto_as n)
       jump_as n world (const_as (a_truth {b = false})) = went world (onward_as small)
       jump_as n world (const_as (a_location {l} few)) =
           let e : (12884901888 + l) / 4294967296 ≡ 3 = omega arith in
-          simp e (erred wrong_sort world)
+          simp e (erred WrongSort world)
       jump_as n world (term_as {t} a) = jump_term n (M.sort t) (E.tagged a) world a
 
       -- `v := f(e)`
@@ -237,7 +230,7 @@ module _ {M : Model} (E : Engine M) (p : Program) where
           simp (lt-leb 7 c.frame low) (went world (opened_as x f low hx there pos a))
       enter_by {v} {y} x f false e hx there pos world a =
           let high : 7 ≤ c.frame = omega (arith, ltb-false (suc (length s.control.callers)) most_frames e, depth E.TermAs h.frames) in
-          simp (le-leb 7 c.frame high) (erred ninth_frame world)
+          simp (le-leb 7 c.frame high) (erred NinthFrame world)
 
     -- `return e`
     word-is : (at k : ℕ) → at < store_words → k < 4294967296 → get_or store at 0 ≡ k → word_in at store ≡ k

@@ -67,5 +67,5 @@ no-fork inputs fits pool count (goes_on h) t a b e = let z : ◌≡◌ {A = ℕ}
 no-fork inputs fits pool count (has_returned h) t a b e = let z : ◌≡◌ {A = ℕ} 0 1 = cc in omega arith
 no-fork inputs fits pool count (has_failed h) t a b e = let z : ◌≡◌ {A = ℕ} 0 1 = cc in omega arith
 no-fork inputs fits pool count has_vanished t a b e = let z : ◌≡◌ {A = ℕ} 0 1 = cc in omega arith
-no-fork inputs fits pool count has_erred t a b e = let z : ◌≡◌ {A = ℕ} 0 1 = cc in omega arith
+no-fork inputs fits pool count (has_erred z) t a b e = let z : ◌≡◌ {A = ℕ} 0 1 = cc in omega arith
 no-fork inputs fits pool count (has_forked {t = u} h j k) t a b e = absurd u
