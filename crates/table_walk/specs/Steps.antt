@@ -1,10 +1,14 @@
 -- The ways through the walk's code, each as one law over words. Assumes nothing.
-use Rattle.std.specs.Prelude.{ℕ, zero, suc, ◌+◌, ◌-◌, ◌<◌, ◌≤◌, ◌%◌, Bool, true, false, ◌≡◌, refl, List, nat_le, Option, None, Some}
-use Rattle.std.proofs.Common.{sym, ◌∙◌, eq-eqb, ne_eqb, arith}
+use Rattle.std.specs.Prelude.{ℕ, zero, suc, ◌+◌, ◌-◌, ◌<◌, ◌≤◌, ◌%◌, Bool, true, false, ◌≡◌, refl, List, nat_le, Option, None, Some, Result, Ok, Err}
+use Rattle.std.proofs.Common.{sym, ap, ◌∙◌, eq-eqb, ne_eqb, arith}
 use Rattle.std.proofs.lemmas.Bool.{lt-leb}
 use borrow.Author.Tests.{leb-false}
 use Rattle.gil.specs.Machine as Machine
 use Rattle.gil.specs.Numbers.{for_terms}
+use Rattle.gil.specs.Refusals.{answer_of}
+use Rattle.gil.specs.declared.refusals.Refusal.{Refusal}
+use Rattle.gil.specs.declared.refusals.Refusal.TheVariants as Refusals
+use Rattle.gil.specs.declared.refusals.Refusal.TheVariants.{Lists, Length, Form, Limits, Names, Jump, End, Rows, Terms}
 use Rattle.machine_code.specs.Mirror.{if?}
 use Rattle.machine_commands.specs.declared.Control.{Control}
 use Rattle.machine_commands.specs.declared.Next.{Next}
@@ -38,7 +42,7 @@ row-unsplit forks row b (Some Vanished) n most h e = refl
 row-unsplit forks row b (Some (Error k)) n most h e = refl
 row-unsplit forks row b (Some (Fork t x y)) n most h e = let z : nat_le most b.branches ≡ false = lt-leb most b.branches h in absurd (no (simp z at e))
   where
-    no : {p : Branch × Branch} → Some p ≡ None → ⊥
+    no : {p : Branch × Branch} → ◌≡◌ {A = Option (Branch × Branch)} (Some p) None → ⊥
     no e = cc
 
 -- the fork that a path was split at
@@ -51,7 +55,13 @@ pub record Split (b : Branch) (x : Option Next) (n most : ℕ) (p q : Branch) : 
   pub yes : p ≡ branch_in b a n (condition_on term 1)
   pub no : q ≡ branch_in b c n (condition_on term 0)
 
-pub split_is : (b : Branch) (x : Option Next) (n most : ℕ) {p q : Branch} → Some (p, q) ≡ split_in b x n most → Split b x n most p q
+both_are :
+    {p q u v : Branch} → ◌≡◌ {A = Option (Branch × Branch)} (Some (p, q)) (Some (u, v)) → (p ≡ u) × (q ≡ v)
+both_are {p} {q} {u} {v} e =
+    let f : ◌≡◌ {A = Branch × Branch} (p, q) (u, v) = cc in
+    (ap (λ (x : Branch × Branch). x.0) f, ap (λ (x : Branch × Branch). x.1) f)
+
+pub split_is : (b : Branch) (x : Option Next) (n most : ℕ) {p q : Branch} → ◌≡◌ {A = Option (Branch × Branch)} (Some (p, q)) (split_in b x n most) → Split b x n most p q
 unfolding split_in
 split_is b None n most e = absurd (cc)
 split_is b (Some (On d)) n most e = absurd (cc)
@@ -62,16 +72,24 @@ split_is b (Some (Error k)) n most e = absurd (cc)
 split_is b (Some (Fork t x y)) n most {p} {q} e = by (nat_le most b.branches) refl e
   where
     by : (z : Bool) → nat_le most b.branches ≡ z
-        → Some (p, q) ≡ if? z None (Some (branch_in b x n (condition_on t 1), branch_in b y n (condition_on t 0)))
+        → ◌≡◌ {A = Option (Branch × Branch)} (Some (p, q))
+        (if? z None (Some (branch_in b x n (condition_on t 1), branch_in b y n (condition_on t 0))))
         → Split b (Some (Fork t x y)) n most p q
     by true z e = absurd (cc)
     by false z e =
-        record { term = t; a = x; c = y; is = refl; left = leb-false most b.branches z; yes = cc; no = cc }
+        record { term = t; a = x; c = y; is = refl; left = leb-false most b.branches z; yes = (both_are e).0; no = (both_are e).1 }
+
+pub next_branches : {p : Branch} (b : Branch) (c : Control) (n w : ℕ) → p ≡ branch_in b c n w → p.branches ≡ b.branches + 1
+unfolding branch_in
+next_branches b c n w e = ap (λ (x : Branch). x.branches) e
 
 -- what a walk comes to by how its path stopped
 module _ (code : List ℕ) (budgets : Budgets) (from : Branch) (store : List ℕ) (cells : List (Machine.Cell ℕ)) (rows : ℕ) (table pool : List ℕ)
-    (count : ℕ) (f : Stop) {store' : List ℕ} {cells' : List (Machine.Cell ℕ)} {pool' : List ℕ} {count' : ℕ}
-    (e : stopped f store' cells' pool' count' ≡ onwards code budgets.steps from.steps (spot from.control store cells pool count)) where
+    (count : ℕ) (f : Stop) {store' : List ℕ} {memory cells' : List (Machine.Cell ℕ)} {pool' : List ℕ} {count' : ℕ} (same : memory ≡ cells)
+    (followed : stopped f store' cells' pool' count' ≡ onwards code budgets.steps from.steps (spot from.control store memory pool count)) where
+  e : stopped f store' cells' pool' count' ≡ onwards code budgets.steps from.steps (spot from.control store cells pool count)
+  e = rw same at followed
+
   abbrev whole : Reached
   whole = walks_in code budgets from store cells rows table pool count
 
@@ -85,9 +103,25 @@ module _ (code : List ℕ) (budgets : Budgets) (from : Branch) (store : List ℕ
   overfull zero h = rw (← e, h)
   overfull (suc k) h = rw (← e, h)
 
-  pub pool-full : full_in f.next count' ≡ true → reached for_terms rows table pool' count' ≡ whole
+  pool-full : full_in f.next count' ≡ true → reached for_terms rows table pool' count' ≡ whole
   unfolding walks_in
   pool-full h = overfull (budgets.branches - from.branches) h
+
+  -- the pool is overfull
+  pub no-room : {r : Result (Unit {0}) Refusal} {x : Refusal} → r ≡ room_in f.next count' → r ≡ Err x
+      → reached (answer_of r) rows table pool' count' ≡ whole
+  no-room {r} {x} k z = by (full_in f.next count') refl (sym z ∙ k)
+    where
+      by : (b : Bool) → full_in f.next count' ≡ b → Err x ≡ if? b (Err Terms) (Ok (tt {0})) → reached (answer_of r) rows table pool' count' ≡ whole
+      by true h w = rw z (ap (λ (n : ℕ). reached n rows table pool' count') (ap answer_of w) ∙ pool-full h)
+      by false h w = absurd (cc)
+
+  pub free : {r : Result (Unit {0}) Refusal} {x : Unit {0}} → r ≡ room_in f.next count' → r ≡ Ok x → full_in f.next count' ≡ false
+  free {x = x} k z = by (full_in f.next count') refl (sym z ∙ k)
+    where
+      by : (b : Bool) → full_in f.next count' ≡ b → ◌≡◌ {A = Result (Unit {0}) Refusal} (Ok x) (if? b (Err Terms) (Ok (tt {0}))) → full_in f.next count' ≡ false
+      by true h w = absurd (cc)
+      by false h w = h
 
   module _ (h : full_in f.next count' ≡ false) where
     plain_row : (k : ℕ) → budgets.branches - from.branches ≡ k → split_in from f.next f.steps budgets.branches ≡ None
@@ -123,3 +157,19 @@ module _ (code : List ℕ) (budgets : Budgets) (from : Branch) (store : List ℕ
       pub both : {o : Reached} → r ≡ 0 → o ≡ walks_in code budgets q store' cells' rows₁ table₁ pool₁ count₁ → o ≡ whole
       unfolding after_first
       both z eo = eo ∙ (simp (eq-eqb r 0 z) at split)
+
+-- a refusal has a number, and nothing else has none
+pub numbered : {r : Result (Unit {0}) Refusal} (x : Refusal) → r ≡ Err x → answer_of r ≡ 0 → ⊥
+numbered x e z = some x (rw e at z)
+  where
+    some : (x : Refusal) → answer_of (Err x) ≡ 0 → ⊥
+    some Refusals.Budgets z = absurd (omega arith)
+    some Lists z = absurd (omega arith)
+    some Length z = absurd (omega arith)
+    some Form z = absurd (omega arith)
+    some Limits z = absurd (omega arith)
+    some Names z = absurd (omega arith)
+    some Jump z = absurd (omega arith)
+    some End z = absurd (omega arith)
+    some Rows z = absurd (omega arith)
+    some Terms z = absurd (omega arith)

@@ -48,13 +48,15 @@ pub fn walk(
         count,
     );
     branch::room(&stop, *count)?;
-    let Some((yes, no)) = from.split(&stop, budgets.branches) else {
-        return from.finish(code, &stop, &memory, &store, table, rows);
-    };
-    walk(
-        code, budgets, &yes, &memory, &store, table, rows, pool, count,
-    )?;
-    walk(
-        code, budgets, &no, &memory, &store, table, rows, pool, count,
-    )
+    match from.split(&stop, budgets.branches) {
+        None => from.finish(code, &stop, &memory, &store, table, rows),
+        Some((yes, no)) => {
+            walk(
+                code, budgets, &yes, &memory, &store, table, rows, pool, count,
+            )?;
+            walk(
+                code, budgets, &no, &memory, &store, table, rows, pool, count,
+            )
+        }
+    }
 }
