@@ -1,5 +1,5 @@
 -- On words: the row of a path that stopped, whether the pool is overfull, a branch's conditions and the two branches of a fork. Assumes nothing.
-use Rattle.std.specs.Prelude.{ℕ, ◌+◌, ◌*◌, ◌%◌, Bool, true, false, List, map, length, nat_le, nat_lt, slice_set, Option, None, Some, Result, Ok, Err}
+use Rattle.std.specs.Prelude.{ℕ, ◌+◌, ◌%◌, Bool, false, List, map, nat_le, nat_lt, slice_set, Option, None, Some, Result, Ok, Err}
 use Rattle.gil.specs.Numbers.{most_branches, most_rows, most_terms, for_rows}
 use Rattle.gil.specs.Machine as Machine
 use Rattle.gil.specs.declared.refusals.Refusal.{Refusal}

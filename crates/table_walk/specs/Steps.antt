@@ -1,5 +1,5 @@
 -- The ways through the walk's code, each as one law over words. Assumes nothing.
-use Rattle.std.specs.Prelude.{ℕ, zero, suc, ◌+◌, ◌-◌, ◌<◌, ◌≤◌, ◌%◌, Bool, true, false, ◌≡◌, refl, List, nat_le, Option, None, Some, Result, Ok, Err}
+use Rattle.std.specs.Prelude.{ℕ, zero, suc, ◌+◌, ◌-◌, ◌<◌, Bool, true, false, ◌≡◌, refl, List, nat_le, Option, None, Some, Result, Ok, Err}
 use Rattle.std.proofs.Common.{sym, ap, ◌∙◌, eq-eqb, ne_eqb, arith}
 use Rattle.std.proofs.lemmas.Bool.{lt-leb}
 use borrow.Author.Tests.{leb-false}
@@ -14,9 +14,9 @@ use Rattle.machine_commands.specs.declared.Control.{Control}
 use Rattle.machine_commands.specs.declared.Next.{Next}
 use Rattle.machine_commands.specs.declared.Next.TheVariants.{On, Returned, Failed, Vanished, Error, Fork}
 use Rattle.table_advance.specs.declared.Stop.{Stop}
-use Rattle.table_advance.specs.Mirror.Followed.{Spot, spot, Stopped, stopped}
+use Rattle.table_advance.specs.Mirror.Followed.{spot, stopped}
 use Rattle.table_branch.specs.declared.Branch.{Branch}
-use Rattle.table_branch.specs.Mirror.{finished, finish_in, full_in, room_in, condition_on, conditions_with, branch_in, split_in}
+use Rattle.table_branch.specs.Mirror.{finished, finish_in, full_in, room_in, condition_on, branch_in, split_in}
 use Rattle.table_walk.specs.declared.Budgets.{Budgets}
 use Rattle.table_walk.specs.Mirror.{Reached, reached, row_in, after_first, turn_by, settle_by, onwards, fork_by, walk_in, walks_in}
 

@@ -1,5 +1,5 @@
 -- `advance::advance` meets its contract. Assumes nothing.
-use Rattle.std.proofs.Common.{◌≡◌, ℕ, false, refl, sym, ap, rules, tests}
+use Rattle.std.proofs.Common.{◌≡◌, ℕ, false, refl, rules, tests}
 use Rattle.machine_commands.specs.declared.Control.{Control}
 use Rattle.machine_commands.specs.declared.Next.{Next}
 use Rattle.machine_commands.specs.declared.Next.TheVariants.{On, Returned, Failed, Vanished, Error, Fork}

@@ -1,5 +1,5 @@
 -- `branch::condition` meets its contract. Assumes nothing.
-use Rattle.std.proofs.Common.{◌≡◌, ℕ, ◌+◌, ◌%◌, Bool, true, false, refl, ap, ◌∙◌}
+use Rattle.std.proofs.Common.{◌≡◌, Bool, true, false, refl, ◌∙◌}
 use Rattle.std.specs.Int.{from_bool}
 use Rattle.gil.specs.Layout.{bit}
 use Rattle.table_branch.specs.Mirror.{condition_on}

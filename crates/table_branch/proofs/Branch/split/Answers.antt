@@ -1,5 +1,5 @@
 -- `branch::Branch::split` meets its contract. Assumes nothing.
-use Rattle.std.proofs.Common.{◌≡◌, ℕ, refl, rules, Some, None, ◌≤◌, ◌<◌}
+use Rattle.std.proofs.Common.{◌≡◌, ℕ, refl, rules, Some, None}
 use Rattle.std.proofs.lemmas.Bool.{lt-leb, le-leb}
 use Rattle.gil.specs.Layout.{bit}
 use Rattle.machine_commands.specs.declared.Control.{Control}
