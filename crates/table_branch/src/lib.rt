@@ -18,8 +18,8 @@ use table_rows::Row;
 
 pub const CONDITIONS: usize = MOST_BRANCHES as usize;
 
-// Where a branch stands: the steps and branches so far, and a condition for each of these. Its store and its cells go beside it, lent, so that
-// each is copied once.
+// Where a branch stands: the steps and branches so far, and a condition for each of these, in an array, since nothing here has a heap; `branches`
+// is tested against the budget, and counts them. Its store and its cells go beside it, lent, so that each is copied once.
 #[derive(Clone, Copy)]
 pub struct Branch {
     pub control: Control,

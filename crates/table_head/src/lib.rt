@@ -21,7 +21,7 @@ pub struct Ending {
 }
 
 // How a row ends whose path stopped so, at a command or where its steps were used up. The command that ends a path counts as a step; a fork,
-// which is cut for branches, does not.
+// which is cut for branches, does not. (On and Fork have an arm each: of one arm for both the proof is told less.)
 fn ends(next: Option<Next>, steps: u32) -> Ending
     ensures { result ≡ ended_in next steps }
 {

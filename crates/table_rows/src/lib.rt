@@ -20,8 +20,9 @@ use machine_values::{tag, word};
 
 const CONDITIONS: usize = MOST_BRANCHES as usize;
 
-// A row's first words: its outcome, with its value's tag and word, its error number or its reason as they stand in the row (docs/LAYOUT.md); its
-// steps and position; and how many inputs, conditions and variables there are.
+// A row's first words: its outcome, with its value's tag and word, its error number or its reason, in numbers, since C reads them so from the row
+// (docs/LAYOUT.md); its steps and position; and how many inputs, conditions and variables there are. Conditions and variables have their count here
+// and not a slice's length, as it may be past their limit (specs/Mirror: conditions_held, variables_held).
 #[derive(Clone, Copy)]
 pub struct Head {
     pub outcome: Outcome,

@@ -20,7 +20,8 @@ pub struct Budgets {
     pub branches: u32,
 }
 
-// The rows that a path adds, to its end, or the refusal that comes first
+// The rows that a path adds, to its end, or the refusal that comes first. Table and pool go with their counts as a parameter each: a struct of
+// `&mut`s would need a clause on each one's ghost name in every function.
 pub fn walk(
     code: &[u32; CODE_WORDS],
     budgets: Budgets,
