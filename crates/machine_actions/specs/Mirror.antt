@@ -4,7 +4,8 @@ use Rattle.gil.specs.Numbers.{location_tag}
 use Rattle.gil.specs.Machine as Machine
 use Rattle.gil.specs.declared.errors.Error as Errors
 use Rattle.gil.specs.declared.errors.Error.TheVariants.{WrongSort}
-use Rattle.machine_code.specs.Code.{lookup_kind, mutate_kind}
+use Rattle.machine_code.specs.declared.kinds.CommandKind.{CommandKind}
+use Rattle.machine_code.specs.declared.kinds.CommandKind.TheVariants as Kinds
 use Rattle.machine_code.specs.Mirror.{if?}
 use Rattle.machine_values.specs.declared.Location.{Location}
 use Rattle.machine_terms.specs.Mirror.{Did, did}
@@ -26,14 +27,19 @@ located_in v = if? (eqb (v / 4294967296) location_tag) (Ok (record { 0 = v % 429
 unfoldable pub on_word : Did (Result ℕ Errors.Error) → (ℕ → List ℕ → ℕ → Did (Result Ask Errors.Error)) → Did (Result Ask Errors.Error)
 on_word d f = by_result d.out (λ v. f v d.pool d.count) (λ e. did (Err e) d.pool d.count)
 
+-- a choice by which action a command is; `dispose` where it is none
+abbrev pub by_action : {A : Type 0} → CommandKind → A → A → A → A
+by_action Kinds.Lookup a b d = a
+by_action Kinds.Mutate a b d = b
+by_action _ a b d = d
+
 module _ (code : List ℕ) (c : Control) (m : Command) (store : List ℕ) where
   -- the first operand is v; `mutate` has a second
   unfoldable pub ask_second : ℕ → List ℕ → ℕ → Did (Result Ask Errors.Error)
   ask_second v pool count =
-      if? (eqb m.kind lookup_kind) (did (by_result (located_in v) (λ l. Ok (Lookup l m.other)) Err) pool count)
-      (if? (eqb m.kind mutate_kind)
+      by_action m.kind (did (by_result (located_in v) (λ l. Ok (Lookup l m.other)) Err) pool count)
       (on_word (evaluate_in code store c.frame m.second pool count) (λ u p n. did (by_result (located_in v) (λ l. Ok (Mutate l m.other u)) Err) p n))
-      (did (by_result (located_in v) (λ l. Ok (Dispose l)) Err) pool count))
+      (did (by_result (located_in v) (λ l. Ok (Dispose l)) Err) pool count)
 
   unfoldable pub ask_in : List ℕ → ℕ → Did (Result Ask Errors.Error)
   ask_in pool count = on_word (evaluate_in code store c.frame m.first pool count) ask_second

@@ -11,9 +11,10 @@ ghost use Rattle.machine_actions.specs.Laws.Changed.{changed, engine_in};
 
 use gil::errors::Error;
 use gil::limits::MOST_INPUTS;
-use gil::numbers;
+use gil::tags::Tag;
 use machine_cells::{Ask, Memory};
-use machine_code::{CODE_WORDS, DISPOSE_KIND, LOOKUP_KIND, MUTATE_KIND, STORE_WORDS};
+use machine_code::kinds::CommandKind;
+use machine_code::{CODE_WORDS, STORE_WORDS};
 use machine_commands as commands;
 use machine_commands::{Command, Control, Next};
 use machine_evaluate as evaluate;
@@ -24,7 +25,7 @@ use machine_values::Location;
 fn located(v: u64) -> Result<Location, Error>
     ensures { result ≡ located_in v }
 {
-    if values::tag(v) == numbers::LOCATION_TAG {
+    if values::tag(v) == Tag::Location as u32 {
         Ok(Location(values::word(v)))
     } else {
         Err(Error::WrongSort)
@@ -45,11 +46,11 @@ fn ask(
 {
     let v = evaluate::evaluate(code, m.first, store, c.frame, pool, count)?;
     match m.kind {
-        LOOKUP_KIND => Ok(Ask::Lookup {
+        CommandKind::Lookup => Ok(Ask::Lookup {
             location: located(v)?,
             property: m.other,
         }),
-        MUTATE_KIND => {
+        CommandKind::Mutate => {
             let value = evaluate::evaluate(code, m.second, store, c.frame, pool, count)?;
             Ok(Ask::Mutate {
                 location: located(v)?,
@@ -98,9 +99,10 @@ pub fn step(
     ensures { changed (kept result store.new memory.new) pool.new count.new ≡ engine_in code.now c (fetch_in code.now c.procedure c.command) (known_in known.entry) memory.old store.old pool.old count.old }
 {
     let m = commands::fetch(code, c);
-    if LOOKUP_KIND <= m.kind && m.kind <= DISPOSE_KIND {
-        act(code, c, m, memory, store, pool, count)
-    } else {
-        commands::step(code, c, m, known, store, pool, count)
+    match m.kind {
+        CommandKind::Lookup | CommandKind::Mutate | CommandKind::Dispose => {
+            act(code, c, m, memory, store, pool, count)
+        }
+        _ => commands::step(code, c, m, known, store, pool, count),
     }
 }

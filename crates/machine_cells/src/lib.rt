@@ -3,7 +3,7 @@
 // in and taken out is Machine's `cell_at`, `put_cell` and `without_cells` over that list (specs/Laws/Served.antt).
 #![tactic(auto)]
 
-ghost use Rattle.std.specs.Prelude.{◌≡◌, ◌≤◌, [], length, map, IfOk, IfErr};
+ghost use Rattle.std.specs.Prelude.{◌≡◌, ◌≤◌, [], length, map, MatchResult};
 ghost use Rattle.gil.specs.Numbers.{most_cells};
 ghost use Rattle.gil.specs.Machine.{without_cells};
 ghost use Rattle.machine_cells.specs.Mirror.{cell_of, held_in, against, StandsAt, LacksAt};
@@ -108,8 +108,7 @@ impl Memory {
 
     // Where the cell stands, or where it would be put
     fn find(&self, l: Location, q: u32) -> Result<usize, usize>
-        ensures found { IfOk result (StandsAt l.0 q self.now) }
-        ensures lacking { IfErr result (LacksAt l.0 q self.now) }
+        ensures { MatchResult result (StandsAt l.0 q self.now) (LacksAt l.0 q self.now) }
     {
         self.cells[..self.held].binary_search_by(|c| c.against(l, q))
     }

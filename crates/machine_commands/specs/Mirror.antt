@@ -3,7 +3,9 @@ use Rattle.std.specs.Prelude.{ℕ, zero, suc, ◌+◌, ◌-◌, ◌*◌, ◌/◌
 use Rattle.gil.specs.Numbers.{most_variables, most_inputs, most_locations, boolean_tag, boolean_term_tag}
 use Rattle.gil.specs.declared.errors.Error as Errors
 use Rattle.gil.specs.declared.errors.Error.TheVariants.{WrongSort, NinthFrame, SeventeenthInput, SeventeenthLocation}
-use Rattle.machine_code.specs.Code.{frame_words, store_words, returns_at, assign_kind, jump_kind, call_kind, u_sym_kind, i_sym_kind, return_kind, vanish_kind}
+use Rattle.machine_code.specs.Code.{frame_words, store_words, returns_at, assign_kind, jump_kind, call_kind, lookup_kind, mutate_kind, dispose_kind, u_sym_kind, i_sym_kind, return_kind, vanish_kind}
+use Rattle.machine_code.specs.declared.kinds.CommandKind.{CommandKind}
+use Rattle.machine_code.specs.declared.kinds.CommandKind.TheVariants.{Assign, Jump, Call, Lookup, Mutate, Dispose, USym, ISym, Return, Fail, Vanish}
 use Rattle.machine_code.specs.Mirror.{if?, code_word}
 use Rattle.machine_values.specs.declared.Input.{Input}
 use Rattle.machine_values.specs.declared.Location.{Location}
@@ -45,13 +47,24 @@ unfoldable pub start_store : List ℕ
 start_store = slice_set (replicate store_words 0) 0 4294967296
 
 abbrev pub vanish_command : Command
-vanish_command = record { kind = vanish_kind; target = 0; first = 0; other = 0; second = 0 }
+vanish_command = record { kind = Vanish; target = 0; first = 0; other = 0; second = 0 }
+
+-- a word that is no command's kind is read as that of `fail`
+unfoldable pub kind_of : ℕ → CommandKind
+kind_of w =
+    if? (w == assign_kind) Assign
+    (if? (w == jump_kind) Jump
+    (if? (w == call_kind) Call
+    (if? (w == lookup_kind) Lookup
+    (if? (w == mutate_kind) Mutate
+    (if? (w == dispose_kind) Dispose
+    (if? (w == u_sym_kind) USym (if? (w == i_sym_kind) ISym (if? (w == return_kind) Return (if? (w == vanish_kind) Vanish Fail)))))))))
 
 unfoldable pub command_in : List ℕ → ℕ → Command
 command_in code at =
     if? (nat_lt at 10798)
     (record {
-      kind = slice_index code at;
+      kind = kind_of (slice_index code at);
       target = slice_index code (at + 1);
       first = slice_index code (at + 2);
       other = slice_index code (at + 3);
@@ -135,20 +148,27 @@ receive_in c x known store pool count =
     after_acted (assign_in (with_input_in c) x d.out store) d.pool d.count)
 
 -- a command whose expression has the value v
+abbrev pub act_by : CommandKind → Control → Command → ℕ → List ℕ → Acted
+act_by Assign c m v store = assign_in c m.target v store
+act_by Jump c m v store = acted (jump_in c m.target v) store
+act_by Call c m v store = enter_in c m.target m.other v store
+act_by Return c m v store = leave_in c v store
+act_by _ c m v store = acted (Failed (v / 4294967296) (v % 4294967296)) store
+
 unfoldable pub act_in : Control → Command → ℕ → List ℕ → Acted
-act_in c m v store =
-    if? (m.kind == assign_kind) (assign_in c m.target v store)
-    (if? (m.kind == jump_kind) (acted (jump_in c m.target v) store)
-    (if? (m.kind == call_kind) (enter_in c m.target m.other v store)
-    (if? (m.kind == return_kind) (leave_in c v store) (acted (Failed (v / 4294967296) (v % 4294967296)) store))))
+act_in c m v store = act_by m.kind c m v store
 
 -- an evaluation, and what is done with its value
 unfoldable pub on_value : Did (Result ℕ Errors.Error) → List ℕ → (ℕ → Acted) → After
 on_value d store f = by_result d.out (λ v. after_acted (f v) d.pool d.count) (λ e. after (Error e) store d.pool d.count)
 
+-- a command by its kind, where those that have a value come to d
+abbrev pub step_by : CommandKind → Control → Command → Option (List ℕ) → List ℕ → List ℕ → ℕ → After → After
+step_by USym c m known store pool count d = after_acted (locate_in c m.target store) pool count
+step_by ISym c m known store pool count d = receive_in c m.target known store pool count
+step_by Vanish c m known store pool count d = after Vanished store pool count
+step_by _ c m known store pool count d = d
+
 unfoldable pub step_in : List ℕ → Control → Command → Option (List ℕ) → List ℕ → List ℕ → ℕ → After
 step_in code c m known store pool count =
-    if? (m.kind == u_sym_kind) (after_acted (locate_in c m.target store) pool count)
-    (if? (m.kind == i_sym_kind) (receive_in c m.target known store pool count)
-    (if? (m.kind == vanish_kind) (after Vanished store pool count)
-    (on_value (evaluate_in code store c.frame m.first pool count) store (λ v. act_in c m v store))))
+    step_by m.kind c m known store pool count (on_value (evaluate_in code store c.frame m.first pool count) store (λ v. act_in c m v store))

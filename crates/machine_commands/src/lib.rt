@@ -9,14 +9,14 @@ ghost use Rattle.std.specs.Prelude.{◌≡◌, ◌<◌};
 ghost use Rattle.gil.specs.Numbers.{most_variables, most_inputs, most_locations};
 ghost use Rattle.machine_terms.specs.Mirror.{did};
 ghost use Rattle.machine_terms.specs.Laws.Engine.{fresh_in, known_in};
-ghost use Rattle.machine_commands.specs.Mirror.{moved_in, with_location_in, with_input_in, locate_in, after, receive_in, act_in, step_in, start_in, start_store, goto_in, onward_in, put_in, word_in, zeros_in, vanish_command, command_in, fetch_in, acted, assign_in, jump_in, enter_in, leave_in};
+ghost use Rattle.machine_commands.specs.Mirror.{moved_in, with_location_in, with_input_in, locate_in, after, receive_in, act_in, step_in, start_in, start_store, goto_in, onward_in, put_in, word_in, zeros_in, vanish_command, kind_of, command_in, fetch_in, acted, assign_in, jump_in, enter_in, leave_in};
 
 use gil::errors::Error;
 use gil::limits::{MOST_FRAMES, MOST_INPUTS, MOST_LOCATIONS, MOST_VARIABLES};
-use gil::numbers;
+use gil::tags::Tag;
+use machine_code::kinds::CommandKind;
 use machine_code::{
-    ASSIGN_KIND, CALL_KIND, CODE_WORDS, COMMAND_WORDS, COMMANDS_AT, FRAME_WORDS, ISYM_KIND,
-    JUMP_KIND, PROCEDURE_WORDS, RETURN_KIND, RETURNS_AT, STORE_WORDS, USYM_KIND, VANISH_KIND,
+    CODE_WORDS, COMMAND_WORDS, COMMANDS_AT, FRAME_WORDS, PROCEDURE_WORDS, RETURNS_AT, STORE_WORDS,
     code_word,
 };
 use machine_evaluate as evaluate;
@@ -37,10 +37,10 @@ pub struct Control {
     pub command: u32,
 }
 
-// A command's five words (crates/machine_code)
+// A command's five words (crates/machine_code), the first of them as its kind
 #[derive(Clone, Copy)]
 pub struct Command {
-    pub kind: u32,
+    pub kind: CommandKind,
     pub target: u32,
     pub first: u32,
     pub other: u32,
@@ -131,12 +131,19 @@ fn vanish() -> Command
     ensures { result ≡ vanish_command }
 {
     Command {
-        kind: VANISH_KIND,
+        kind: CommandKind::Vanish,
         target: 0,
         first: 0,
         other: 0,
         second: 0,
     }
+}
+
+// A word that is no command's kind, which no accepted program has, is read as that of `fail`.
+fn kind(word: u32) -> CommandKind
+    ensures { result ≡ kind_of word }
+{
+    CommandKind::try_from(word).unwrap_or(CommandKind::Fail)
 }
 
 #[tactic(auto, unfolding(crate::specs::Mirror::command_in))]
@@ -145,7 +152,7 @@ fn command_at(code: &[u32; CODE_WORDS], at: usize) -> Command
 {
     if at < CODE_WORDS - 4 {
         Command {
-            kind: code[at],
+            kind: kind(code[at]),
             target: code[at + 1],
             first: code[at + 2],
             other: code[at + 3],
@@ -187,13 +194,13 @@ fn jump(c: Control, n: u32, v: u64) -> Next
     ensures { result ≡ jump_in c n v }
 {
     let tag = values::tag(v);
-    if tag == numbers::BOOLEAN_TAG {
+    if tag == Tag::Boolean as u32 {
         if values::word(v) == 0 {
             return Next::On(onward(c));
         }
         return Next::On(goto(c, n));
     }
-    if tag == numbers::BOOLEAN_TERM_TAG {
+    if tag == Tag::BooleanTerm as u32 {
         return Next::Fork(values::word(v), goto(c, n), onward(c));
     }
     Next::Error(Error::WrongSort)
@@ -314,10 +321,10 @@ fn act(c: Control, m: Command, v: u64, store: &mut [u64; STORE_WORDS]) -> Next
     ensures { acted result store.new ≡ act_in c m v store.old }
 {
     match m.kind {
-        ASSIGN_KIND => assign(c, m.target, v, store),
-        JUMP_KIND => jump(c, m.target, v),
-        CALL_KIND => enter(c, m.target, m.other, v, store),
-        RETURN_KIND => leave(c, v, store),
+        CommandKind::Assign => assign(c, m.target, v, store),
+        CommandKind::Jump => jump(c, m.target, v),
+        CommandKind::Call => enter(c, m.target, m.other, v, store),
+        CommandKind::Return => leave(c, v, store),
         _ => Next::Failed(values::tag(v), values::word(v)),
     }
 }
@@ -336,9 +343,9 @@ pub fn step(
     ensures { after result store.new pool.new count.new ≡ step_in code.now c m (known_in known.entry) store.old pool.old count.old }
 {
     match m.kind {
-        USYM_KIND => locate(c, m.target, store),
-        ISYM_KIND => receive(c, m.target, known, store, pool, count),
-        VANISH_KIND => Next::Vanished,
+        CommandKind::USym => locate(c, m.target, store),
+        CommandKind::ISym => receive(c, m.target, known, store, pool, count),
+        CommandKind::Vanish => Next::Vanished,
         _ => match evaluate::value(code, m.first, store, c.frame, pool, count) {
             Ok(v) => act(c, m, v, store),
             Err(e) => Next::Error(e),

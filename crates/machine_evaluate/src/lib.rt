@@ -71,7 +71,7 @@ fn leaf(
     Ok(Some(number_at(code, at + 1)?))
 }
 
-// Taken into `operator`, so that a leaf costs no call
+// Taken into `operator`, so that a leaf costs no call. Here and in `value` the answer is `Ok(..?)`: passed through, it would be kept in memory.
 #[cycle(operand_operator)]
 #[tactic(auto, unfolding(crate::specs::Mirror::operand_in, crate::specs::Mirror::operand_by))]
 #[inline(always)]
@@ -88,7 +88,7 @@ fn operand(
 {
     match leaf(code, at, store, frame)? {
         Some(v) => Ok(v),
-        None => operator(code, at, depth, store, frame, pool, count),
+        None => Ok(operator(code, at, depth, store, frame, pool, count)?),
     }
 }
 
@@ -149,7 +149,8 @@ fn simple(
     None
 }
 
-// As `evaluate`, with the common case first. Called at one place, where the compiler takes it in whole; there alone it is faster than `evaluate`.
+// As `evaluate`, with the common case first. Called at one place, where the compiler takes it in whole. For an action's operands, or inside
+// `operator`, the common case first is slower (docs/ENGINE.md, Speed).
 #[tactic(auto, unfolding(crate::specs::Mirror::evaluate_in, crate::specs::Mirror::operand_in, crate::specs::Mirror::operand_by))]
 pub fn value(
     code: &[u32; CODE_WORDS],
@@ -167,7 +168,7 @@ pub fn value(
     if let Some(v) = simple(code, at as usize, store, frame) {
         return Ok(v);
     }
-    operator(code, at as usize, MOST_DEPTH, store, frame, pool, count)
+    Ok(operator(code, at as usize, MOST_DEPTH, store, frame, pool, count)?)
 }
 
 #[tactic(auto, unfolding(crate::specs::Mirror::evaluate_in))]

@@ -9,8 +9,9 @@ ghost use Rattle.gil.specs.Numbers.{term_length};
 ghost use Rattle.machine_terms.specs.Mirror.{did, node_of, made_in, term_in, needed_in, operate_in, negate_in, input_in};
 
 use gil::errors::Error;
+use gil::kinds::TermKind;
 use gil::layout::TERM_BYTES;
-use gil::numbers;
+use gil::tags::Tag;
 use lent_words as words;
 use machine_code::EQUAL_NODE;
 use machine_values as values;
@@ -46,7 +47,7 @@ fn make(pool: &mut [u8], count: &mut u32, kind: u32, a: u64, b: u64) -> u32
 pub fn input(pool: &mut [u8], count: &mut u32, i: Input) -> u64
     ensures { did result pool.new count.new ≡ input_in i.0 pool.old count.old }
 {
-    let k = make(pool, count, numbers::INPUT_KIND, values::number(i.0), 0);
+    let k = make(pool, count, TermKind::Input as u32, values::number(i.0), 0);
     TERMS + k as u64
 }
 
@@ -97,12 +98,12 @@ pub fn operate(pool: &mut [u8], count: &mut u32, kind: u32, a: u64, b: u64) -> R
 pub fn negate(pool: &mut [u8], count: &mut u32, a: u64) -> Result<u64, Error>
     ensures { did result pool.new count.new ≡ negate_in a pool.old count.old }
 {
-    if values::sort(a) != numbers::BOOLEAN_TAG {
+    if values::sort(a) != Tag::Boolean as u32 {
         return Err(Error::WrongSort);
     }
     if a < TERMS {
         return Ok(values::truth(values::word(a) == 0));
     }
-    let k = make(pool, count, numbers::NOT_KIND, a, 0);
+    let k = make(pool, count, TermKind::Not as u32, a, 0);
     Ok(BOOLEAN_TERMS + k as u64)
 }

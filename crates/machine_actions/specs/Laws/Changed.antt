@@ -8,11 +8,13 @@ use Rattle.gil.specs.Machine as Machine
 use Rattle.gil.specs.Machine.{is_at, is_before, put_cell, without_cells}
 use Rattle.gil.specs.declared.errors.Error as Errors
 use Rattle.gil.specs.declared.errors.Error.TheVariants.{WrongSort, ThirtyThirdCell}
-use Rattle.machine_code.specs.Code.{lookup_kind, mutate_kind, dispose_kind}
+use Rattle.machine_code.specs.declared.kinds.CommandKind.{CommandKind}
+use Rattle.machine_code.specs.declared.kinds.CommandKind.TheVariants.{Lookup, Mutate, Dispose}
 use Rattle.machine_code.specs.Mirror.{if?}
 use Rattle.machine_terms.specs.Mirror.{Did}
 use Rattle.machine_evaluate.specs.Mirror.{by_result, evaluate_in}
 use Rattle.machine_cells.specs.Laws.Served.{looked_in}
+pub use Rattle.machine_cells.specs.Laws.Served.{put-length}
 use Rattle.machine_commands.specs.declared.Control.{Control}
 use Rattle.machine_commands.specs.declared.Command.{Command}
 use Rattle.machine_commands.specs.declared.Next.TheVariants.{Error}
@@ -62,27 +64,15 @@ module _ (code : List ℕ) (c : Control) (m : Command) (ds : List (Machine.Cell 
   dispose_in pool count =
       on_operand (evaluate_in code store c.frame m.first pool count) store ds (λ v p n. changed (dispose_at c m v ds store) p n)
 
-  unfoldable pub change_in : List ℕ → ℕ → Changed
-  change_in pool count = if? (eqb m.kind mutate_kind) (mutate_in pool count) (dispose_in pool count)
+-- a choice by a command's kind: the three actions on cells, or another
+abbrev pub by_kind : {A : Type 0} → CommandKind → A → A → A → A → A
+by_kind Lookup a b d e = a
+by_kind Mutate a b d e = b
+by_kind Dispose a b d e = d
+by_kind _ a b d e = e
 
 -- the engine's move: the actions on cells, and `step` for every other command
 unfoldable pub engine_in : List ℕ → Control → Command → Option (List ℕ) → List (Machine.Cell ℕ) → List ℕ → List ℕ → ℕ → Changed
 engine_in code c m known ds store pool count =
-    if? (eqb m.kind lookup_kind) (of_after (lookup_in code c m ds store pool count) ds)
-    (if? (eqb m.kind mutate_kind) (change_in code c m ds store pool count)
-    (if? (eqb m.kind dispose_kind) (change_in code c m ds store pool count) (of_after (step_in code c m known store pool count) ds)))
-
--- how many cells there are after a put does not depend on the value
-module _ {T : Type 0} (l q : ℕ) (u v : Value T) where
-  put_lengths : (c : Machine.Cell T) (cs : List (Machine.Cell T)) (a b : Bool) → is_at l q c ≡ a → is_before l q c ≡ b
-      → length (put_cell l q u cs) ≡ length (put_cell l q v cs)
-      → length (put_cell l q u (c ∷ cs)) ≡ length (put_cell l q v (c ∷ cs))
-  unfolding put_cell
-  put_lengths c cs true b e f h = simp (e, put_cell)
-  put_lengths c cs false true e f h = simp (e, f, put_cell)
-  put_lengths c cs false false e f h = simp (e, f, put_cell) (ap suc h)
-
-  pub put-length : (cs : List (Machine.Cell T)) → length (put_cell l q u cs) ≡ length (put_cell l q v cs)
-  unfolding put_cell
-  put-length [] = refl
-  put-length (c ∷ cs) = put_lengths c cs (is_at l q c) (is_before l q c) refl refl (put-length cs)
+    by_kind m.kind (of_after (lookup_in code c m ds store pool count) ds) (mutate_in code c m ds store pool count) (dispose_in code c m ds store pool count)
+    (of_after (step_in code c m known store pool count) ds)

@@ -1,13 +1,13 @@
 -- An action asked and then done on the cells, or the error that came before: it is Changed's `lookup_in` and `change_in`. Assumes nothing.
-use Rattle.std.specs.Prelude.{ℕ, ◌/◌, ◌%◌, Bool, true, false, ◌≡◌, ◌<◌, ◌≤◌, ◌||◌, refl, List, length, Option, Result, Ok, Err, ltb, eqb}
-use Rattle.std.proofs.Common.{◌∙◌, ap, arith, ne_eqb, eqb-true}
-use Rattle.std.proofs.lemmas.Bool.Decides.{nat_tests}
+use Rattle.std.specs.Prelude.{ℕ, ◌/◌, ◌%◌, Bool, true, false, ◌≡◌, refl, List, length, Option, Result, Ok, Err, ltb, eqb}
+use Rattle.std.proofs.Common.{◌∙◌}
 use Rattle.gil.specs.Numbers.{most_cells, location_tag}
 use Rattle.gil.specs.Values.{term}
 use Rattle.gil.specs.Machine as Machine
 use Rattle.gil.specs.Machine.{put_cell}
 use Rattle.gil.specs.declared.errors.Error as Errors
-use Rattle.machine_code.specs.Code.{lookup_kind, mutate_kind, dispose_kind}
+use Rattle.machine_code.specs.declared.kinds.CommandKind.{CommandKind}
+use Rattle.machine_code.specs.declared.kinds.CommandKind.TheVariants as Kinds
 use Rattle.machine_terms.specs.Mirror.{Did, did}
 use Rattle.machine_evaluate.specs.Mirror.{by_result, evaluate_in}
 use Rattle.machine_cells.specs.declared.Ask.{Ask}
@@ -16,7 +16,7 @@ use Rattle.machine_commands.specs.declared.Control.{Control}
 use Rattle.machine_commands.specs.declared.Command.{Command}
 use Rattle.machine_commands.specs.Mirror.{Acted, after_acted, on_value, step_in}
 use Rattle.machine_actions.specs.Mirror.{located_in, on_word, ask_second, ask_in, answered_in, acting_in}
-use Rattle.machine_actions.specs.Laws.Changed.{look_at, lookup_in, mutate_at, dispose_at, Changed, changed, of_after, on_operand, mutate_second, mutate_in, dispose_in, change_in, engine_in}
+use Rattle.machine_actions.specs.Laws.Changed.{look_at, lookup_in, mutate_at, dispose_at, Changed, changed, of_after, on_operand, mutate_second, mutate_in, dispose_in, by_kind, engine_in}
 
 -- an evaluation that errs, and one that gives a value
 module _ (c : Control) (x : ℕ) (ds : List (Machine.Cell ℕ)) (store : List ℕ) (d : Did (Result ℕ Errors.Error)) (f : ℕ → List ℕ → ℕ → Did (Result Ask Errors.Error)) {g : ℕ → List ℕ → ℕ → Changed}
@@ -59,52 +59,48 @@ module _ (c : Control) (m : Command) (v : ℕ) (ds : List (Machine.Cell ℕ)) (s
   dispose-by false e = simp e
   dispose-by true e = simp e
 
--- asked and done, each action is Changed's
-module _ (code : List ℕ) (c : Control) (m : Command) (ds : List (Machine.Cell ℕ)) (store pool : List ℕ) (count : ℕ) where
-  pub lookup-is : m.kind ≡ 4 → acting_in code c m ds store pool count ≡ of_after (lookup_in code c m ds store pool count) ds
-  unfolding acting_in ask_in ask_second lookup_in
+-- asked and done, each action is the engine's move
+module _ (code : List ℕ) (c : Control) (m : Command) (known : Option (List ℕ)) (ds : List (Machine.Cell ℕ)) (store pool : List ℕ) (count : ℕ) where
+  pub lookup-is : m.kind ≡ Kinds.Lookup → acting_in code c m ds store pool count ≡ engine_in code c m known ds store pool count
+  unfolding acting_in ask_in ask_second lookup_in engine_in
   lookup-is k =
       let d = evaluate_in code store c.frame m.first pool count in
-      let four : eqb m.kind lookup_kind ≡ true = ap (λ (n : ℕ). eqb n 4) k in
-      on-word _ _ _ _ _ _ (λ v p n. simp four (look_by c m v ds store p n (eqb (v / 4294967296) location_tag) refl))
-      ∙ value-is d store ds (λ v. look_at c m v ds store) d.out refl
+      simp k
+      (on-word _ _ _ _ _ _ (λ v p n. simp k (look_by c m v ds store p n (eqb (v / 4294967296) location_tag) refl))
+      ∙ value-is d store ds (λ v. look_at c m v ds store) d.out refl)
 
-  pub mutate-is : m.kind ≡ 5 → acting_in code c m ds store pool count ≡ change_in code c m ds store pool count
-  unfolding acting_in ask_in ask_second change_in mutate_in mutate_second
+  pub mutate-is : m.kind ≡ Kinds.Mutate → acting_in code c m ds store pool count ≡ engine_in code c m known ds store pool count
+  unfolding acting_in ask_in ask_second engine_in mutate_in mutate_second
   mutate-is k =
-      let four : eqb m.kind lookup_kind ≡ false = ap (λ (n : ℕ). eqb n 4) k in
-      let five : eqb m.kind mutate_kind ≡ true = ap (λ (n : ℕ). eqb n 5) k in
-      simp five
+      simp k
       (on-word _ _ _ _ _ _
-      (λ v p n. simp (four, five)
+      (λ v p n. simp k
       (on-word _ _ _ _ _ _
       (λ u p n.
       mutate-by c m v ds store p n u (eqb (v / 4294967296) location_tag) (ltb most_cells (length (put_cell (v % 4294967296) m.other (term 0) ds))) refl refl))))
 
-  pub dispose-is : m.kind ≡ 6 → acting_in code c m ds store pool count ≡ change_in code c m ds store pool count
-  unfolding acting_in ask_in ask_second change_in dispose_in
+  pub dispose-is : m.kind ≡ Kinds.Dispose → acting_in code c m ds store pool count ≡ engine_in code c m known ds store pool count
+  unfolding acting_in ask_in ask_second engine_in dispose_in
   dispose-is k =
-      let four : eqb m.kind lookup_kind ≡ false = ap (λ (n : ℕ). eqb n 4) k in
-      let five : eqb m.kind mutate_kind ≡ false = ap (λ (n : ℕ). eqb n 5) k in
-      simp five
-      (on-word _ _ _ _ _ _ (λ v p n. simp (four, five) (dispose-by c m v ds store p n (eqb (v / 4294967296) location_tag) refl)))
+      simp k
+      (on-word _ _ _ _ _ _ (λ v p n. simp k (dispose-by c m v ds store p n (eqb (v / 4294967296) location_tag) refl)))
 
--- by a command's kind, an action or any other, it is the engine's move
-module _ (code : List ℕ) (c : Control) (m : Command) (known : Option (List ℕ)) (ds : List (Machine.Cell ℕ)) (store pool : List ℕ) (count : ℕ) where
-  acts-by : (a b d : Bool) → eqb m.kind lookup_kind ≡ a → eqb m.kind mutate_kind ≡ b → eqb m.kind dispose_kind ≡ d → a || b || d ≡ true
-      → acting_in code c m ds store pool count ≡ engine_in code c m known ds store pool count
+  -- and any other command is `step`'s
+  pub other-is : (m.kind ≡ Kinds.Lookup → ⊥) → (m.kind ≡ Kinds.Mutate → ⊥) → (m.kind ≡ Kinds.Dispose → ⊥)
+      → of_after (step_in code c m known store pool count) ds ≡ engine_in code c m known ds store pool count
   unfolding engine_in
-  acts-by true b d e f g h = simp e (lookup-is code c m ds store pool count (eqb-true m.kind lookup_kind e))
-  acts-by false true d e f g h = simp (e, f) (mutate-is code c m ds store pool count (eqb-true m.kind mutate_kind f))
-  acts-by false false true e f g h = simp (e, f, g) (dispose-is code c m ds store pool count (eqb-true m.kind dispose_kind g))
-  acts-by false false false e f g h = cc
-
-  pub acts-is : 4 ≤ m.kind → m.kind ≤ 6 → acting_in code c m ds store pool count ≡ engine_in code c m known ds store pool count
-  acts-is low high =
-      acts-by (eqb m.kind lookup_kind) (eqb m.kind mutate_kind) (eqb m.kind dispose_kind) refl refl refl (grind (arith, nat_tests))
-
-  pub other-is : (4 ≤ m.kind → 6 < m.kind) → of_after (step_in code c m known store pool count) ds ≡ engine_in code c m known ds store pool count
-  unfolding engine_in
-  other-is out =
-      simp
-      (ne_eqb m.kind lookup_kind (λ e. omega (arith, e, out (omega arith))), ne_eqb m.kind mutate_kind (λ e. omega (arith, e, out (omega arith))), ne_eqb m.kind dispose_kind (λ e. omega (arith, e, out (omega arith))))
+  other-is a b d = by m.kind refl
+    where
+      by : (k : CommandKind) → m.kind ≡ k → of_after (step_in code c m known store pool count) ds
+          ≡ by_kind m.kind (of_after (lookup_in code c m ds store pool count) ds) (mutate_in code c m ds store pool count) (dispose_in code c m ds store pool count) (of_after (step_in code c m known store pool count) ds)
+      by Kinds.Lookup e = absurd (a e)
+      by Kinds.Mutate e = absurd (b e)
+      by Kinds.Dispose e = absurd (d e)
+      by Kinds.Assign e = simp e
+      by Kinds.Jump e = simp e
+      by Kinds.Call e = simp e
+      by Kinds.USym e = simp e
+      by Kinds.ISym e = simp e
+      by Kinds.Return e = simp e
+      by Kinds.Fail e = simp e
+      by Kinds.Vanish e = simp e

@@ -1,11 +1,10 @@
 -- Laws of the cells in use that the removal goes by. Assumes nothing.
 use Rattle.std.specs.Prelude.{ℕ, suc, ◌+◌, ◌<◌, ◌≤◌, Bool, true, false, ◌≡◌, List, [], ◌∷◌, ◌++◌, map, length, set, take, drop}
-use Rattle.std.proofs.Common.{sym, ap, ◌∙◌, add-one, length-take, drop_of_length-le, get_or-take, get_or, eqb, length-take-le, arith}
+use Rattle.std.proofs.Common.{append-nil, sym, ap, ◌∙◌, add-one, length-take, drop_of_length-le, get_or-take, get_or, eqb, length-take-le, arith}
 use Rattle.std.proofs.Math.Path.{ap₂}
 use Rattle.std.proofs.Math.Option.{some}
 use Rattle.std.proofs.lemmas.List.{length-map, map-append}
 use Rattle.std.proofs.Math.Seq.{drop-cons, take-suc-set, take-set-lt, drop-set-lt, append_snoc}
-use mathlib.Core.List.{append-nil}
 use Rattle.gil.proofs.Theory.Tests.{chosen}
 use Rattle.gil.specs.Machine as Machine
 use Rattle.gil.specs.Machine.{is_at, cell_at, without_cells}

@@ -1,13 +1,10 @@
 -- "Cells are kept in order of location, then of property by its first place in the text": the invariant of the store, for the machine's cells
 -- over any terms. `put_cell` and `without_cells` keep it; in an ordered list, what lies beyond the place sought is not the cell sought.
 -- Assumes nothing.
-use Rattle.std.specs.Prelude.{ℕ, ◌<◌, Bool, true, false, ◌&&◌, ◌||◌, ◌≡◌, ◌⊎◌}
-use Rattle.std.proofs.Math.Path.{refl, ap}
-use Rattle.std.proofs.Common.{sym, ◌∙◌, subst₂, inl, inr, arith}
-use mathlib.Core.List.{List, [], ◌∷◌}
+use Rattle.std.specs.Prelude.{ℕ, ◌<◌, Bool, true, false, ◌&&◌, ◌||◌, ◌≡◌, ◌⊎◌, refl, List, [], ◌∷◌, ltb, eqb}
+use Rattle.std.proofs.Common.{sym, ap, ◌∙◌, subst₂, inl, inr, arith, ltb-true, ltb-false, eqb-true, lt-ltb, eq-eqb, ne_eqb}
+use Rattle.std.proofs.lemmas.Bool.{eqb-false}
 use Rattle.std.proofs.Math.Option.{none, some}
-use Rattle.std.proofs.Math.Dec.{ltb, eqb}
-use borrow.Author.Tests.{ltb-true, ltb-false, eqb-true, eqb-false, lt-ltb, eq-eqb, ne_eqb}
 use Rattle.gil.specs.Values.{Value}
 use Rattle.gil.proofs.Theory.Tests.{chosen, no_false, both}
 use Rattle.gil.specs.Machine.{Cell, is_at, is_before, cell_at, put_cell, without_cells}

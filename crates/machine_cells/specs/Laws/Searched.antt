@@ -1,5 +1,5 @@
 -- What a search among cells in order finds, and what is put there: Machine's `cell_at` and `put_cell`. Assumes nothing.
-use Rattle.std.specs.Prelude.{ℕ, zero, suc, ◌<◌, ◌≤◌, Bool, true, false, ◌≡◌, refl, List, [], ◌∷◌, map, length, slice_index_or, Result, Ok, Err, IfOk, IfErr}
+use Rattle.std.specs.Prelude.{ℕ, zero, suc, ◌<◌, ◌≤◌, Bool, true, false, ◌≡◌, refl, List, [], ◌∷◌, map, length, slice_index_or, Result, Ok, Err, MatchResult}
 use Rattle.std.specs.List.Sorted.{IsSearchInRange, IsBinarySearchResult, IsNonDecreasingBy}
 use Rattle.std.specs.declared.cmp.Ordering.TheVariants.{Less, Equal, Greater}
 use Rattle.std.specs.Ordering.{ordering_index}
@@ -122,8 +122,8 @@ module _ (l q : ℕ) where
 
   -- a search by halving passes over cells that it has not looked at: they must be in order
   pub searched : (ys : List Cell) → Ordered (map cell_of ys) → (r : Result ℕ ℕ) → IsSearchInRange r (length ys) → IsBinarySearchResult (against l q) ys r
-      → IfOk r (StandsAt l q (map cell_of ys)) × IfErr r (LacksAt l q (map cell_of ys))
-  searched ys o (Ok i) h equal = (stands i ys o h (there_is l q _ (equal no_cell)), tt)
+      → MatchResult r (StandsAt l q (map cell_of ys)) (LacksAt l q (map cell_of ys))
+  searched ys o (Ok i) h equal = stands i ys o h (there_is l q _ (equal no_cell))
   searched ys o (Err i) h parted =
       let p = parted (rise ys o) in
-      (tt, lacks i ys o h (λ k less. p.0 k no_cell (omega arith) less) (λ k le less. p.1 k no_cell le less))
+      lacks i ys o h (λ k less. p.0 k no_cell (omega arith) less) (λ k le less. p.1 k no_cell le less)

@@ -1,10 +1,11 @@
 -- What an action comes to on the cells, by Machine's `cell_at`, `put_cell` and `without_cells`; and what is true of every memory. Assumes nothing.
-use Rattle.std.specs.Prelude.{ℕ, ◌≤◌, Bool, ◌≡◌, List, nat_lt, length, Result, Ok, Err}
+use Rattle.std.specs.Prelude.{ℕ, suc, ◌≤◌, Bool, true, false, ◌≡◌, refl, List, [], ◌∷◌, nat_lt, length, Result, Ok, Err}
+use Rattle.std.proofs.Common.{ap, arith, ltb-false}
 use Rattle.std.proofs.Math.Option.{Option, none, some}
 use Rattle.gil.specs.Numbers.{most_cells}
 use Rattle.gil.specs.Values.{Value, term}
 use Rattle.gil.specs.Machine as Machine
-use Rattle.gil.specs.Machine.{cell_at, put_cell, without_cells}
+use Rattle.gil.specs.Machine.{is_at, is_before, cell_at, put_cell, without_cells}
 use Rattle.gil.specs.declared.errors.Error.{Error}
 use Rattle.gil.specs.declared.errors.Error.TheVariants.{NoSuchCell, ThirtyThirdCell}
 use Rattle.machine_code.specs.Mirror.{if?}
@@ -12,7 +13,8 @@ use Rattle.machine_cells.specs.declared.Cell.{Cell}
 use Rattle.machine_cells.specs.declared.Ask.{Ask}
 use Rattle.machine_cells.specs.declared.Ask.TheVariants.{Lookup, Mutate, Dispose}
 use Rattle.machine_cells.specs.Mirror.{held_in, word_of}
-use Rattle.machine_cells.specs.Laws.Order.{Ordered}
+use Rattle.machine_cells.specs.Laws.Order.{Ordered, empty, put_keeps, without_keeps}
+use Rattle.machine_cells.specs.Laws.InUse.{without_fewer}
 
 -- an array whose first `held` cells are in use and in order
 pub record Tidy (held : ℕ) (cells : List Cell) : Type 0 where
@@ -49,3 +51,31 @@ abbrev pub left_by : Ask → List (Machine.Cell ℕ) → List (Machine.Cell ℕ)
 left_by (Lookup l q) ds = ds
 left_by (Mutate l q w) ds = put_in l.0 q w ds
 left_by (Dispose l) ds = without_cells l.0 ds
+
+-- how many cells there are after a put does not depend on the value
+module _ {T : Type 0} (l q : ℕ) (u v : Value T) where
+  put_lengths : (c : Machine.Cell T) (cs : List (Machine.Cell T)) (a b : Bool) → is_at l q c ≡ a → is_before l q c ≡ b
+      → length (put_cell l q u cs) ≡ length (put_cell l q v cs)
+      → length (put_cell l q u (c ∷ cs)) ≡ length (put_cell l q v (c ∷ cs))
+  unfolding put_cell
+  put_lengths c cs true b e f h = simp (e, put_cell)
+  put_lengths c cs false true e f h = simp (e, f, put_cell)
+  put_lengths c cs false false e f h = simp (e, f, put_cell) (ap suc h)
+
+  pub put-length : (cs : List (Machine.Cell T)) → length (put_cell l q u cs) ≡ length (put_cell l q v cs)
+  unfolding put_cell
+  put-length [] = refl
+  put-length (c ∷ cs) = put_lengths c cs (is_at l q c) (is_before l q c) refl refl (put-length cs)
+
+-- whatever is asked, the cells stay in order and at most 32
+pub served : (a : Ask) (ds : List (Machine.Cell ℕ)) → Ordered ds → length ds ≤ most_cells → Ordered (left_by a ds) × (length (left_by a ds) ≤ most_cells)
+served (Lookup l q) ds o few = (o, few)
+served (Mutate l q w) ds o few = by (full_for l.0 q ds) refl
+  where
+    by : (b : Bool) → full_for l.0 q ds ≡ b → Ordered (put_in l.0 q w ds) × (length (put_in l.0 q w ds) ≤ most_cells)
+    by true e = rw e (o, few)
+    by false e = rw e (put_keeps l.0 q (term w) ds o, omega (arith, put-length l.0 q (term w) (term 0) ds, ltb-false most_cells (length (put_cell l.0 q (term 0) ds)) e))
+served (Dispose l) ds o few = (without_keeps l.0 ds o, omega (arith, without_fewer l.0 ds, few))
+
+pub no_cells : (cells : List Cell) → length cells ≡ most_cells → Tidy 0 cells
+no_cells cells whole = record { few = omega arith; whole = whole; order = empty }

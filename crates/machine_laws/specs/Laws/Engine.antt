@@ -3,7 +3,7 @@
 -- is taken. Assumes nothing.
 use Rattle.std.specs.Prelude.{ℕ, ◌+◌, ◌<◌, ◌≤◌, Bool, true, false, ◌≡◌, refl, List, [], ◌++◌, length, get_or, drop, ltb}
 use Rattle.std.proofs.Common.{◌∙◌, sym, ap, ap₂, subst, arith, drop-drop, ltb-true, ltb-false}
-use mathlib.Core.List.{append_assoc}
+use Rattle.std.proofs.lemmas.List.{append_assoc}
 use Rattle.std.proofs.Math.ListN.{get_or-eq_default}
 use Rattle.std.proofs.Math.Seq.{drop-append_seam}
 use Rattle.gil.specs.Numbers.{most_variables, most_frames}
@@ -18,8 +18,8 @@ use Rattle.machine_evaluate.specs.Mirror.{evaluate_in}
 use Rattle.machine_evaluate.specs.Laws.{evaluate_as}
 use Rattle.machine_commands.specs.declared.Control.{Control}
 use Rattle.machine_commands.specs.declared.Command.{Command}
-use Rattle.machine_commands.specs.Mirror.{vanish_command, fetch_in, act_in, step_in}
-use Rattle.machine_actions.specs.Laws.Changed.{lookup_in, mutate_second, mutate_in, dispose_in, change_in, engine_in}
+use Rattle.machine_commands.specs.Mirror.{vanish_command, kind_of, fetch_in, act_in, step_in}
+use Rattle.machine_actions.specs.Laws.Changed.{lookup_in, mutate_second, mutate_in, dispose_in, engine_in}
 use Rattle.machine_laws.specs.Laws.State.{top}
 use Rattle.machine_laws.specs.Laws.Moves.{StateAs, has_failed, has_vanished, MovedAs, ChangedAs, value_as, operand_as, assign_as, jump_as, enter_by, leave_as}
 use Rattle.machine_laws.specs.Laws.Actions.{look_as, mutate_as, dispose_as, locate_as, receive_as}
@@ -61,7 +61,7 @@ module _ {M : Model} (E : Engine M) (p : Program) (ok : WellFormed p) {s : State
         → E.WorldAs w pool count
         → ChangedAs E p store ds (exec M p s cmd w)
         (engine_in (program_words p) c (of_words (cmd_words at cmd)) E.known ds store pool count)
-    unfolding exec cmd_nodes cmd_words engine_in step_in lookup_in change_in mutate_in mutate_second dispose_in act_in give ◌>>=◌ ◌>>◌ settled
+    unfolding exec cmd_nodes cmd_words kind_of engine_in step_in lookup_in mutate_in mutate_second dispose_in act_in give ◌>>=◌ ◌>>◌ settled
     exec_as (an_assign {x} {e} hx fits) at rest nodes w pool count world =
         value_as E p _ _ (evaluated fits at rest nodes world) (λ w v y pool count world a. assign_as E p h few small x hx world a)
     exec_as (a_jump {n} {e} fits hn) at rest nodes w pool count world =

@@ -1,12 +1,8 @@
 -- A frame opened for a call: its words, and that the frames stand in the store again. Assumes nothing.
-use Prim.Native.Nat.{ℕ, zero, suc, ◌+◌, ◌*◌, ◌<◌, ◌≤◌}
-use Rattle.std.specs.Prelude.{Bool, true, false, List, ◌∷◌, length, get_or, set, replicate, eqb}
-use Rattle.std.proofs.Math.Path.{◌≡◌, refl}
-use Rattle.std.proofs.Common.{◌∙◌, ap, get_or-set_same, get_or-set_other, lt-ltb, eqb-true}
+use Rattle.std.specs.Prelude.{ℕ, zero, suc, ◌+◌, ◌*◌, ◌<◌, ◌≤◌, ◌≡◌, refl, Bool, true, false, List, ◌∷◌, length, get_or, set, replicate, eqb}
+use Rattle.std.proofs.Common.{◌∙◌, ap, arith, add-one, length-set, get_or-set_same, get_or-set_other, lt-ltb, eqb-true}
 use Rattle.std.proofs.Math.Option.{Option, none, some}
-use Rattle.std.proofs.Math.Numerals.{add-one}
-use native.Mathlib.Omega.{arith}
-use Rattle.std.proofs.Math.ListN.{length-set, length-replicate}
+use Rattle.std.proofs.Math.ListN.{length-replicate}
 use Rattle.std.proofs.lemmas.Bool.{eqb-false}
 use Rattle.gil.specs.Numbers.{most_variables, most_frames}
 use Rattle.gil.specs.Names.{Program}

@@ -1,12 +1,8 @@
 -- A command makes at most 511 terms: two expressions at most eight deep make at most 255 each. So where the pool is not overfull before a
 -- command, the count of terms after it is exact in 32 bits. Assumes nothing.
-use Prim.Native.Nat.{ℕ, zero, suc, ◌+◌, ◌≤◌}
-use Rattle.std.specs.Prelude.{Bool, ◌≡◌, [], ◌∷◌, length, get_or, ltb, leb}
-use Rattle.std.proofs.Math.Bool.{true, false}
-use Rattle.std.proofs.Math.Path.{refl, ap}
+use Rattle.std.specs.Prelude.{ℕ, zero, suc, ◌+◌, ◌≤◌, Bool, true, false, refl, ◌≡◌, [], ◌∷◌, length, get_or, ltb, leb}
 use Rattle.std.proofs.Math.Option.{Option, none, some}
-use native.Mathlib.Omega.{arith}
-use Rattle.std.proofs.Common.{length-append}
+use Rattle.std.proofs.Common.{ap, arith, length-append}
 use Rattle.gil.specs.Numbers.{most_frames, most_inputs, most_locations, most_cells, wrong_sort, no_such_cell, ninth_frame, seventeenth_input, seventeenth_location}
 use Rattle.gil.specs.Tree.{Op, Expr, Cmd}
 use Rattle.gil.specs.Names.{Program}

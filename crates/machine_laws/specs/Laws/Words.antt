@@ -1,13 +1,10 @@
 -- Where a well-formed program's words stand: the next command's five words and its expressions, and `vanish` past the end of a procedure.
 -- Assumes nothing.
-use Rattle.std.specs.Prelude.{ℕ, zero, suc, ◌+◌, ◌-◌, ◌*◌, ◌<◌, ◌≤◌}
-use Rattle.std.proofs.Math.Path.{◌≡◌, refl, sym, ap, ap₂}
-use Rattle.std.proofs.Common.{◌∙◌}
-use mathlib.Core.List.{List, [], ◌∷◌, ◌++◌, append_assoc}
-use native.Mathlib.Omega.{arith}
-use Rattle.std.proofs.Math.ListN.{length, get_or, take, drop, replicate, length-append, get_or-append}
+use Rattle.std.specs.Prelude.{ℕ, zero, suc, ◌+◌, ◌-◌, ◌*◌, ◌<◌, ◌≤◌, ◌≡◌, refl, List, [], ◌∷◌, ◌++◌, length, get_or, take, drop, replicate}
+use Rattle.std.proofs.Common.{sym, ap, ap₂, ◌∙◌, arith, length-append, lt-ltb, le-ltb}
+use Rattle.std.proofs.lemmas.List.{append_assoc}
+use Rattle.std.proofs.Math.ListN.{get_or-append}
 use Rattle.std.proofs.Math.Seq.{split_at, get_or-append-add, drop-append-add, drop-append-le, drop-append_seam, length-take-le}
-use borrow.Author.Tests.{lt-ltb, le-ltb}
 use Rattle.gil.specs.Tree.{Cmd, assign, ifgoto, call, lookup, mutate, dispose, u_sym, i_sym, return, fail, vanish}
 use Rattle.gil.specs.Names.{gather, Procedure, Program}
 use Rattle.gil.specs.Layout.{room}
@@ -17,12 +14,13 @@ use Rattle.lent_words.specs.Laws.Rooms.{length-room}
 use Rattle.machine_code.specs.Code.{cmd_nodes, cmd_words, command_words, procedure_words, all_commands, program_words, code_words, nodes_at, commands_room, nodes_room, procedures_room, commands_at}
 use Rattle.machine_code.specs.WellFormed.{Each, none, more, CmdFits, ProcedureFits, WellFormed}
 use Rattle.machine_code.specs.Mirror.{code_word}
+use Rattle.machine_code.specs.declared.kinds.CommandKind.{CommandKind}
 use Rattle.machine_commands.specs.declared.Command.{Command}
-use Rattle.machine_commands.specs.Mirror.{vanish_command, command_in, fetch_in}
+use Rattle.machine_commands.specs.Mirror.{vanish_command, kind_of, command_in, fetch_in}
 
 -- a command of five words
 abbrev pub of_words : List ℕ → Command
-of_words ws = record { kind = get_or ws 0 0; target = get_or ws 1 0; first = get_or ws 2 0; other = get_or ws 3 0; second = get_or ws 4 0 }
+of_words ws = record { kind = kind_of (get_or ws 0 0); target = get_or ws 1 0; first = get_or ws 2 0; other = get_or ws 3 0; second = get_or ws 4 0 }
 
 five-words : (at : ℕ) (c : Cmd ℕ) → length (cmd_words at c) ≡ 5
 unfolding cmd_words
@@ -211,9 +209,9 @@ module _ (p : Program) (ok : WellFormed p) where
         let w0 : get_or (program_words p) (commands_at + 5 * length pre) 0 ≡ get_or (cmd_words (nodes_at + length (gather cmd_nodes pre)) c) 0 0 =
         ap (λ (n : ℕ). get_or (program_words p) n 0) e ∙ word 0 (omega arith) in
         simp (lt-ltb (commands_at + 5 * length pre) 10798 (omega (arith, fewer)))
-        (five w0 (word 1 (omega arith)) (word 2 (omega arith)) (word 3 (omega arith)) (word 4 (omega arith)))
+        (five (ap kind_of w0) (word 1 (omega arith)) (word 2 (omega arith)) (word 3 (omega arith)) (word 4 (omega arith)))
       where
-        five : {a b d e f a' b' d' e' f' : ℕ} → a ≡ a' → b ≡ b' → d ≡ d' → e ≡ e' → f ≡ f'
+        five : {a a' : CommandKind} {b d e f b' d' e' f' : ℕ} → a ≡ a' → b ≡ b' → d ≡ d' → e ≡ e' → f ≡ f'
             → ◌≡◌ {A = Command} (record { kind = a; target = b; first = d; other = e; second = f })
             (record { kind = a'; target = b'; first = d'; other = e'; second = f' })
         five p q r s t = λ i. record { kind = p i; target = q i; first = r i; other = s i; second = t i }
