@@ -1,3 +1,2 @@
--- What each function of this crate answers and leaves, in the code's own terms: nobody's promise. Assumes nothing.
+-- What a path comes to on words, and one command of it: nobody's promise. Assumes nothing.
 pub mod Followed
-pub mod Progressed

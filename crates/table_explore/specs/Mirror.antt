@@ -1,6 +1,6 @@
 -- The exploration on words: where it begins, and what `explore` answers and leaves. Assumes nothing.
-use Rattle.std.specs.Prelude.{ℕ, ◌≡◌, List, [], ◌∷◌, length, replicate, eqb}
-use Rattle.gil.specs.Numbers.{most_branches, most_inputs, table_length, pool_length}
+use Rattle.std.specs.Prelude.{ℕ, List, [], ◌∷◌, length, replicate, eqb}
+use Rattle.gil.specs.Numbers.{most_branches}
 use Rattle.machine_code.specs.Mirror.{if?}
 use Rattle.machine_commands.specs.Mirror.{start_in, start_store}
 use Rattle.table_advance.specs.Mirror.Followed.{spot}
@@ -9,11 +9,8 @@ use Rattle.table_branch.specs.declared.Branch.{Branch}
 use Rattle.table_walk.specs.Mirror.{Reached, walk_in}
 
 -- the branch where every path begins
-pub record Begins (code : List ℕ) (b : Branch) : Type 0 where
-  pub control : b.control ≡ start_in code
-  pub steps : b.steps ≡ 0
-  pub branches : b.branches ≡ 0
-  pub held : b.held ≡ 0
+unfoldable pub begin_in : List ℕ → Branch
+begin_in code = record { control = start_in code; steps = 0; branches = 0; conditions = replicate most_branches 0 }
 
 -- what `explore` returns and leaves
 pub record Explored : Type 0 where
@@ -33,5 +30,5 @@ explored_by table_length pool_length r =
 unfoldable pub explore_in : List ℕ → ℕ → ℕ → List ℕ → List ℕ → Explored
 explore_in code budget most table pool =
     explored_by (length table) (length pool)
-    (walk_in code (replicate most_inputs 0) budget most 0 0 (replicate most_branches 0)
+    (walk_in code budget most 0 0 (replicate most_branches 0)
     (spot (start_in code) start_store [] (replicate (length pool) 0) 0) 0 (replicate (length table) 0))

@@ -4,14 +4,12 @@
 #![tactic(auto)]
 
 ghost use Rattle.std.specs.Prelude.{◌≡◌};
-ghost use Rattle.machine_cells.specs.Mirror.{held_in};
-ghost use Rattle.machine_cells.specs.Laws.Served.{Tidy};
-ghost use Rattle.table_explore.specs.Mirror.{Begins, explored, explore_in};
+ghost use Rattle.gil.specs.Refusals.{answer_of};
+ghost use Rattle.table_explore.specs.Mirror.{begin_in, explored, explore_in};
 
-use gil::limits::MOST_TERMS;
-use lent_words as words;
-use machine_cells as cells;
-use machine_code::{CODE_WORDS, STORE_WORDS};
+use gil::refusals::Refusal;
+use machine_cells::Memory;
+use machine_code::CODE_WORDS;
 use machine_commands as commands;
 use table_branch::{Branch, CONDITIONS};
 use table_rows as rows;
@@ -19,43 +17,51 @@ pub use table_walk::Budgets;
 use table_walk::walk;
 
 // Where every path begins
+#[tactic(auto, unfolding(crate::specs::Mirror::begin_in))]
 fn begin(code: &[u32; CODE_WORDS]) -> Branch
-    ensures { Begins code.now result }
+    ensures { result ≡ begin_in code.now }
 {
-    let control = commands::start(code);
     Branch {
-        control,
+        control: commands::start(code),
         steps: 0,
         branches: 0,
-        held: 0,
+        conditions: [0; CONDITIONS],
     }
 }
 
-// Explores into a table and a pool of exactly the needed length: 0, or 9 or 10, which leave both zero
-pub fn explore(code: &[u32; CODE_WORDS], budgets: Budgets, table: &mut [u8], pool: &mut [u8]) -> u32
-    ensures { explored result table.new pool.new ≡ explore_in code.now budgets.steps budgets.branches table.old pool.old }
+// Explores into a table and a pool of exactly the needed length; a refusal, 9 or 10, leaves both zero
+pub fn explore(
+    code: &[u32; CODE_WORDS],
+    budgets: Budgets,
+    table: &mut [u8],
+    pool: &mut [u8],
+) -> Result<(), Refusal>
+    ensures { explored (answer_of result) table.new pool.new ≡ explore_in code.now budgets.steps budgets.branches table.old pool.old }
 {
-    words::zero(table);
-    words::zero(pool);
+    table.fill(0);
+    pool.fill(0);
     let mut rows = 0;
     let mut count = 0;
-    let r = walk(
+    let walked = walk(
         code,
         budgets,
-        begin(code),
-        [0; CONDITIONS],
+        &begin(code),
+        &Memory::new(),
         &commands::start_store(),
-        cells::none(),
         table,
         &mut rows,
         pool,
         &mut count,
     );
-    if r != 0 {
-        words::zero(table);
-        words::zero(pool);
-        return r;
+    match walked {
+        Ok(()) => {
+            rows::write_heading(table, rows, count);
+            Ok(())
+        }
+        Err(refusal) => {
+            table.fill(0);
+            pool.fill(0);
+            Err(refusal)
+        }
     }
-    rows::write_heading(table, rows, count);
-    0
 }

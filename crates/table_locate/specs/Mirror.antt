@@ -1,6 +1,6 @@
 -- Where a list of inputs falls, read from the bytes of a table and a pool: what each function of this crate answers, on any bytes at all.
 -- proofs/Laws/Rows shows that for a sound table this is document 01's `placed`. Assumes nothing.
-use Rattle.std.specs.Prelude.{ℕ, zero, suc, ◌+◌, ◌*◌, ◌-◌, ◌%◌, Bool, true, false, List, get_or, set, replicate, ltb, eqb}
+use Rattle.std.specs.Prelude.{ℕ, zero, suc, ◌+◌, ◌*◌, ◌-◌, ◌%◌, Bool, true, false, List, get_or, set, replicate, ltb, eqb, Option, MatchOption, ◌≡◌, ◌<◌}
 use Rattle.gil.specs.Numbers.{most_branches, most_rows, most_terms, number_term_tag, input_kind, not_kind, plus_kind, or_kind, word_length, term_length, row_length, heading_length, conditions_at, conditions_word}
 use Rattle.machine_code.specs.Code.{plus_node}
 use Rattle.lent_words.specs.Mirror.{word_at, at_most}
@@ -56,6 +56,14 @@ unfoldable pub first_row : (table vs : List ℕ) → (k r : ℕ) → ℕ
 first_row table vs zero r = r
 first_row table vs (suc k) r = if? (row_holds table vs r) r (first_row table vs k (r + 1))
 
+-- the rows that a table counts, and no more than there is room for
+abbrev pub rows_in : List ℕ → ℕ
+rows_in table = at_most most_rows (word_at table 0)
+
+-- one of `rows` rows, or none, by its number: `rows` where there is none
+abbrev pub found : Option ℕ → (rows number : ℕ) → Type 0
+found o rows number = MatchOption o (number ≡ rows) (λ r. (number ≡ r) × (r < rows))
+
 unfoldable pub locate_in : (table pool inputs : List ℕ) → ℕ
 locate_in table pool inputs =
-    first_row table (values_to pool inputs (replicate most_terms 0) (at_most most_terms (word_at table 4))) (at_most most_rows (word_at table 0)) 0
+    first_row table (values_to pool inputs (replicate most_terms 0) (at_most most_terms (word_at table 4))) (rows_in table) 0

@@ -6,13 +6,14 @@
 ghost use Rattle.std.specs.Prelude.{◌≡◌, ◌≤◌};
 ghost use Rattle.gil.specs.Numbers.{most_rows, most_terms};
 ghost use Rattle.lent_words.specs.Mirror.{at_most};
-ghost use Rattle.table_locate.specs.Mirror.{value_word, operand_word, op_value, input_value, term_value, values_to, condition_holds, row_holds, first_row, locate_in};
+ghost use Rattle.table_locate.specs.Mirror.{value_word, operand_word, op_value, input_value, term_value, values_to, condition_holds, row_holds, first_row, rows_in, locate_in, found};
 
+use gil::kinds::TermKind;
 use gil::layout::{CONDITIONS_AT, CONDITIONS_WORD, HEADING_BYTES, ROW_BYTES, TERM_BYTES};
 use gil::limits::{MOST_BRANCHES, MOST_ROWS, MOST_TERMS};
-use gil::numbers;
+use gil::tags::Tag;
 use lent_words as words;
-use machine_code as code;
+use machine_code::kinds::Operator;
 use machine_values as values;
 use machine_values::Input;
 
@@ -24,37 +25,34 @@ const COUNT_AT: usize = 4 * CONDITIONS_WORD as usize;
 const TRUTHS_AT: usize = CONDITIONS_AT + 4;
 
 // An operator's kind in the program's words is so much more than its term's kind
-const NODE_ABOVE_TERM: u32 = code::PLUS_NODE - numbers::PLUS_KIND;
+const NODE_ABOVE_TERM: u32 = Operator::Plus as u32 - TermKind::Plus as u32;
 
 // The word of term k's value
 fn value_word(values: &[u64; TERMS], k: u32) -> u32
     ensures { result ≡ value_word values.now k }
 {
-    let at = k as usize;
-    if at < TERMS {
-        return values::word(values[at]);
-    }
-    0
+    values.get(k as usize).map_or(0, |v| values::word(*v))
 }
 
 // An operand's word: its own where it is a constant
 fn operand(values: &[u64; TERMS], tag: u32, w: u32) -> u32
     ensures { result ≡ operand_word values.now tag w }
 {
-    if tag < numbers::NUMBER_TERM_TAG {
+    if tag < Tag::NumberTerm as u32 {
         return w;
     }
     value_word(values, w)
 }
 
-// `not` or an operator on its operands' words; their sorts are right in a sound pool
+// `not` or an operator on its operands' words; their sorts are right in a sound pool. Any number is a kind here, 0 too, and no TermKind is read: on
+// all bytes this is specs/Mirror's op_value, by which demands' specs/FromBytes reads a table.
 fn op_value(kind: u32, x: u32, y: u32) -> u64
     ensures { result ≡ op_value kind x y }
 {
-    if kind == numbers::NOT_KIND {
+    if kind == TermKind::Not as u32 {
         return values::truth(x == 0);
     }
-    if numbers::OR_KIND < kind {
+    if kind > TermKind::Or as u32 {
         return 0;
     }
     values::work(kind + NODE_ABOVE_TERM, x, y)
@@ -74,7 +72,7 @@ fn term_value(pool: &[u8], inputs: &[u8], values: &[u64; TERMS], k: u32) -> u64
     let at = TERM_BYTES * (k as usize);
     let kind = words::word_at(pool, at);
     let w = words::word_at(pool, at + 8);
-    if kind == numbers::INPUT_KIND {
+    if kind == TermKind::Input as u32 {
         return input_value(inputs, Input(w));
     }
     let x = operand(values, words::word_at(pool, at + 4), w);
@@ -90,12 +88,8 @@ fn term_value(pool: &[u8], inputs: &[u8], values: &[u64; TERMS], k: u32) -> u64
 fn evaluate(pool: &[u8], inputs: &[u8], values: &mut [u64; TERMS], terms: u32)
     ensures { values.new ≡ values_to pool.now inputs.now values.old (at_most most_terms terms) }
 {
-    let n = words::at_most(MOST_TERMS, terms);
-    let mut k = 0;
-    while k < n {
-        let v = term_value(pool, inputs, values, k);
-        values[k as usize] = v;
-        k += 1;
+    for k in 0..words::at_most(MOST_TERMS, terms) {
+        values[k as usize] = term_value(pool, inputs, values, k);
     }
 }
 
@@ -112,38 +106,20 @@ fn condition_holds(table: &[u8], values: &[u64; TERMS], row: u32, i: u32) -> boo
 fn row_holds(table: &[u8], values: &[u64; TERMS], row: u32) -> bool
     ensures { result ≡ row_holds table.now values.now row }
 {
-    let n = words::at_most(
-        MOST_BRANCHES,
-        words::word_at(table, HEADING_BYTES + ROW_BYTES * (row as usize) + COUNT_AT),
-    );
-    let mut i = 0;
-    while i < n {
-        if !condition_holds(table, values, row, i) {
-            return false;
-        }
-        i += 1;
-    }
-    true
+    let count = words::word_at(table, HEADING_BYTES + ROW_BYTES * (row as usize) + COUNT_AT);
+    (0..words::at_most(MOST_BRANCHES, count)).all(|i| condition_holds(table, values, row, i))
 }
 
-// The first row whose conditions hold, or the number of rows where none does
-fn first_row(table: &[u8], values: &[u64; TERMS], rows: u32) -> u32
-    ensures { (result ≡ first_row table.now values.now (at_most most_rows rows) 0) × (result ≤ most_rows) }
+// The first row whose conditions hold
+fn first_row(table: &[u8], values: &[u64; TERMS], rows: u32) -> Option<u32>
+    ensures { found result (at_most most_rows rows) (first_row table.now values.now (at_most most_rows rows) 0) }
 {
-    let n = words::at_most(MOST_ROWS, rows);
-    let mut r = 0;
-    while r < n {
-        if row_holds(table, values, r) {
-            return r;
-        }
-        r += 1;
-    }
-    r
+    (0..words::at_most(MOST_ROWS, rows)).find(|r| row_holds(table, values, *r))
 }
 
-// The number of the row that the inputs fall in, or the number of rows where they fall in none
-pub fn locate(table: &[u8], pool: &[u8], inputs: &[u8]) -> u32
-    ensures { (result ≡ locate_in table.now pool.now inputs.now) × (result ≤ most_rows) }
+// The number of the row that the inputs fall in
+pub fn locate(table: &[u8], pool: &[u8], inputs: &[u8]) -> Option<u32>
+    ensures { found result (rows_in table.now) (locate_in table.now pool.now inputs.now) }
 {
     let mut values = [0u64; TERMS];
     evaluate(pool, inputs, &mut values, words::word_at(table, 4));

@@ -19,7 +19,7 @@ unfolding run_in
 run-leaves p ok inputs fits budget small {answer} a =
     let zeros : List ℕ = replicate answer_length 0 in
     a.written
-    ∙ plain-answer inputs fits p ok (0 ∷ []) 0 (omega arith) budget small (replicate most_branches 0) a.held a.cells refl a.inside a.in_use
+    ∙ plain-answer inputs fits p ok (0 ∷ []) 0 (omega arith) budget small (replicate most_branches 0) a.cells refl a.in_use
     (zeros ++ drop answer_length answer) (take_at zeros (drop answer_length answer) answer_length (length-replicate {A = ℕ} answer_length 0))
     ∙ ap (λ (l : List ℕ). answer_bytes (plain_run p inputs budget) ++ l)
     (drop_at zeros (drop answer_length answer) answer_length (length-replicate {A = ℕ} answer_length 0))

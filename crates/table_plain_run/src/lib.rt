@@ -8,13 +8,12 @@ ghost use Rattle.table_plain_run.specs.Mirror.{Answered};
 
 use gil::layout::ANSWER_BYTES;
 use gil::limits::{MOST_BRANCHES, MOST_INPUTS};
-use lent_words as words;
-use machine_cells as cells;
+use machine_cells::Memory;
 use machine_code::CODE_WORDS;
 use machine_commands as commands;
 use table_head::head;
 use table_path as path;
-use table_rows as rows;
+use table_rows::Row;
 
 const ANSWER: usize = ANSWER_BYTES;
 
@@ -30,26 +29,29 @@ pub fn run(code: &[u32; CODE_WORDS], inputs: &[u32; INPUTS], budget: u32, answer
     if answer.len() < ANSWER {
         return;
     }
-    words::zero(&mut answer[..ANSWER]);
+    answer[..ANSWER].fill(0);
+    let mut memory = Memory::new();
     let mut store = commands::start_store();
     let mut no_pool = [0u8; 1];
     let mut no_terms = 0;
-    let f = path::follow(
+    let stop = path::follow(
         code,
         commands::start(code),
         0,
         budget,
-        true,
-        inputs,
+        Some(inputs),
+        &mut memory,
         &mut store,
-        0,
-        cells::none(),
         &mut no_pool,
         &mut no_terms,
     );
-    let at = f.control;
-    let next = f.next;
-    let cells = f.cells;
-    let head = head(code, f.cut, next, at, f.steps, 0, f.held);
-    rows::write_row(answer, head, &[0; CONDITIONS], &store, at.frame, cells);
+    let at = stop.control;
+    let row = Row {
+        head: head(code, stop.next, at, stop.steps, 0),
+        conditions: &[0; CONDITIONS],
+        store: &store,
+        frame: at.frame,
+        cells: memory.cells(),
+    };
+    row.write(answer);
 }

@@ -1,7 +1,9 @@
 -- What the row writer leaves: its mirror on lists. Assumes nothing.
-use Rattle.std.specs.Prelude.{ℕ, zero, suc, ◌+◌, ◌*◌, ◌/◌, ◌%◌, List, [], ◌∷◌, ◌++◌, length, get_or, take, drop, ltb, leb}
+use Rattle.std.specs.Prelude.{ℕ, zero, suc, ◌+◌, ◌*◌, ◌/◌, ◌%◌, List, [], ◌∷◌, ◌++◌, length, get_or, take, drop, ltb, leb, min}
 use Rattle.machine_code.specs.Mirror.{if?}
 use Rattle.gil.specs.Numbers.{most_variables, most_branches, most_rows, most_frames, most_cells, row_length, heading_length, head_room, conditions_room, variables_room, cells_room, liveness_room, sites_room, rest_room}
+use Rattle.gil.specs.Names.{gather}
+use Rattle.gil.specs.Codes.{outcome_number}
 use Rattle.gil.specs.Layout.{Part, in_room}
 use Rattle.machine_code.specs.Code.{frame_words}
 use Rattle.lent_words.specs.Mirror.{at_most}
@@ -15,9 +17,10 @@ words_from f i zero = []
 words_from f i (suc n) = f i ++ words_from f (suc i) n
 
 -- a row's first ten words
-unfoldable pub head_of : Head → List ℕ
-head_of h =
-    h.outcome ∷ h.tag ∷ h.word ∷ h.steps ∷ h.procedure ∷ h.command ∷ h.inputs ∷ h.conditions ∷ h.variables ∷ h.cells ∷ []
+unfoldable pub head_of : Head → List Cell → List ℕ
+head_of h cells =
+    outcome_number h.outcome ∷ h.tag ∷ h.word ∷ h.steps ∷ h.procedure ∷ h.command ∷ h.inputs ∷ h.conditions ∷ h.variables
+    ∷ min (length cells) most_cells ∷ []
 
 -- a condition is held as 2 × term + truth, a value as tag × 2^32 + word
 unfoldable pub condition_of : ℕ → List ℕ
@@ -29,10 +32,6 @@ value_of v = v / 4294967296 ∷ v % 4294967296 ∷ []
 unfoldable pub cell_of : Cell → List ℕ
 cell_of c = c.location.0 ∷ c.property ∷ value_of c.value
 
--- what stands where there is no cell
-abbrev pub no_cell : Cell
-no_cell = record { location = record { 0 = 0 }; property = 0; value = 0 }
-
 -- what the things of a row have for words, by their numbers: frame f's variable x stands at 19 × f + x of the store
 abbrev pub condition_in : List ℕ → ℕ → List ℕ
 condition_in conditions i = condition_of (get_or conditions i 0)
@@ -40,26 +39,23 @@ condition_in conditions i = condition_of (get_or conditions i 0)
 abbrev pub variable_in : List ℕ → ℕ → ℕ → List ℕ
 variable_in store frame i = value_of (get_or store (frame_words * frame + i) 0)
 
-abbrev pub cell_in : List Cell → ℕ → List ℕ
-cell_in cells i = cell_of (get_or cells i no_cell)
-
--- the words that conditions, variables and cells have: as many as are counted, and no more than there is room for
+-- the words that conditions, variables and cells have: as many as there are, and no more than there is room for
 unfoldable pub conditions_held : ℕ → List ℕ → List ℕ
 conditions_held count conditions = words_from (condition_in conditions) 0 (at_most most_branches count)
 
 unfoldable pub variables_held : ℕ → List ℕ → ℕ → List ℕ
 variables_held count store frame = if? (ltb frame most_frames) (words_from (variable_in store frame) 0 (at_most most_variables count)) []
 
-unfoldable pub cells_held : ℕ → List Cell → List ℕ
-cells_held count cells = words_from (cell_in cells) 0 (at_most most_cells count)
+unfoldable pub cells_held : List Cell → List ℕ
+cells_held cells = gather cell_of (take most_cells cells)
 
 -- the parts of a row, as Layout has them, and each written at its place
 unfoldable pub held_parts : Head → List ℕ → List ℕ → ℕ → List Cell → List Part
 held_parts h conditions store frame cells =
-    in_room head_room (head_of h)
+    in_room head_room (head_of h cells)
     ∷ in_room conditions_room (conditions_held h.conditions conditions)
     ∷ in_room variables_room (variables_held h.variables store frame)
-    ∷ in_room cells_room (cells_held h.cells cells)
+    ∷ in_room cells_room (cells_held cells)
     ∷ in_room liveness_room []
     ∷ in_room sites_room []
     ∷ in_room rest_room []

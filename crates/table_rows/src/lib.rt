@@ -3,42 +3,29 @@
 // Layout: docs/LAYOUT.md. specs/Laws/Row.antt shows that what is left is document 01's row, specs/Laws/Table.antt where rows stand in the table.
 #![tactic(auto)]
 
-ghost use Rattle.std.specs.Prelude.{◌≡◌, [], ◌∷◌, ◌+◌, ◌*◌, ◌<◌};
-ghost use Rattle.gil.specs.Numbers.{most_cells, row_length, conditions_at, variables_at, cells_at};
+ghost use Rattle.std.specs.Prelude.{◌≡◌, ℕ, List, [], ◌∷◌, ◌+◌, ◌*◌, ◌^◌, ◌<◌, length};
+ghost use Rattle.std.specs.Fn.{FnReturnsAt};
+ghost use Rattle.gil.specs.Names.{gather};
+ghost use Rattle.gil.specs.Numbers.{conditions_at, variables_at, cells_at};
 ghost use Rattle.lent_words.specs.Mirror.{put_words};
-ghost use Rattle.table_rows.specs.Mirror.{head_of, cell_of, conditions_held, variables_held, with_row, with_row_at};
+ghost use Rattle.table_rows.specs.Mirror.{head_of, conditions_held, variables_held, cells_held, with_row, with_row_at};
 
-use gil::layout;
 use gil::layout::{CELLS_AT, CONDITIONS_AT, HEADING_BYTES, ROW_BYTES, VARIABLES_AT};
 use gil::limits::{MOST_BRANCHES, MOST_CELLS, MOST_FRAMES, MOST_ROWS, MOST_VARIABLES};
-use lent_words::{at_most, put_word};
+use gil::outcomes::Outcome;
+use lent_words::put_word;
 use machine_cells::Cell;
 use machine_code::{FRAME_WORDS, STORE_WORDS};
 use machine_values::{tag, word};
 
-// The most conditions, variables and cells, as the types go; where the words of a head stand that begin a pair; a cell's value stands behind its place
 const CONDITIONS: usize = MOST_BRANCHES as usize;
 
-const VARIABLES: u32 = MOST_VARIABLES as u32;
-
-const CELLS: u32 = MOST_CELLS as u32;
-
-const OUTCOME_AT: usize = 4 * layout::OUTCOME_WORD as usize;
-
-const VALUE_AT: usize = 4 * layout::VALUE_WORD as usize;
-
-const PROCEDURE_AT: usize = 4 * layout::PROCEDURE_WORD as usize;
-
-const INPUTS_AT: usize = 4 * layout::INPUTS_WORD as usize;
-
-const VARIABLES_COUNT_AT: usize = 4 * layout::VARIABLES_WORD as usize;
-
-const CELL_VALUES_AT: usize = CELLS_AT + 8;
-
-// A row's first ten words. Outcome, tag and word are its outcome and value, error number or reason; the last three count what follows.
+// A row's first words: its outcome, with its value's tag and word, its error number or its reason, in numbers, since C reads them so from the row
+// (docs/LAYOUT.md); its steps and position; and how many inputs, conditions and variables there are. Conditions and variables have their count here
+// and not a slice's length, as it may be past their limit (specs/Mirror: conditions_held, variables_held).
 #[derive(Clone, Copy)]
 pub struct Head {
-    pub outcome: u32,
+    pub outcome: Outcome,
     pub tag: u32,
     pub word: u32,
     pub steps: u32,
@@ -47,113 +34,131 @@ pub struct Head {
     pub inputs: u32,
     pub conditions: u32,
     pub variables: u32,
-    pub cells: u32,
 }
 
-// The heading of the table.
+// A finished row: its head, the conditions (2 × term + truth each), the store and the frame whose variables are written, and the cells in use
+#[derive(Clone, Copy)]
+pub struct Row<'a> {
+    pub head: Head,
+    pub conditions: &'a [u32; CONDITIONS],
+    pub store: &'a [u64; STORE_WORDS],
+    pub frame: u32,
+    pub cells: &'a [Cell],
+}
+
+impl Row<'_> {
+    // Written into its own part of the table: that of its number, from 0
+    pub fn finish(&self, table: &mut [u8], number: u32)
+        ensures { table.new ≡ with_row_at table.old number self.now.head self.now.conditions.now self.now.store.now self.now.frame self.now.cells.now }
+    {
+        if number >= MOST_ROWS {
+            return;
+        }
+        let at = HEADING_BYTES + ROW_BYTES * number as usize;
+        if at > table.len() {
+            return;
+        }
+        self.write(&mut table[at..]);
+    }
+
+    // Written where `part` begins
+    pub fn write(&self, part: &mut [u8])
+        ensures { part.new ≡ with_row part.old self.now.head self.now.conditions.now self.now.store.now self.now.frame self.now.cells.now }
+    {
+        self.write_head(part);
+        self.write_conditions(part);
+        self.write_variables(part);
+        self.write_cells(part);
+    }
+
+    fn write_head(&self, part: &mut [u8])
+        ensures { part.new ≡ put_words part.old 0 (head_of self.now.head self.now.cells.now) }
+    {
+        let h = self.head;
+        let cells = self.cells.len().min(MOST_CELLS) as u32;
+        put_words(
+            part,
+            0,
+            &[
+                h.outcome as u32,
+                h.tag,
+                h.word,
+                h.steps,
+                h.procedure,
+                h.command,
+                h.inputs,
+                h.conditions,
+                h.variables,
+                cells,
+            ],
+        );
+    }
+
+    fn write_conditions(&self, part: &mut [u8])
+        ensures { part.new ≡ put_words part.old conditions_at (conditions_held self.now.head.conditions self.now.conditions.now) }
+    {
+        let conditions = self.conditions;
+        let n = self.head.conditions.min(MOST_BRANCHES) as usize;
+        write_pairs(part, CONDITIONS_AT, &conditions[..n], |c| (*c / 2, *c % 2));
+    }
+
+    fn write_variables(&self, part: &mut [u8])
+        ensures { part.new ≡ put_words part.old variables_at (variables_held self.now.head.variables self.now.store.now self.now.frame) }
+    {
+        if self.frame >= MOST_FRAMES {
+            return;
+        }
+        let store = self.store;
+        let first = FRAME_WORDS * self.frame as usize;
+        let n = (self.head.variables as usize).min(MOST_VARIABLES);
+        write_pairs(
+            part,
+            VARIABLES_AT,
+            &store[first..first + n],
+            |v| (tag(*v), word(*v)),
+        );
+    }
+
+    fn write_cells(&self, part: &mut [u8])
+        ensures { part.new ≡ put_words part.old cells_at (cells_held self.now.cells.now) }
+    {
+        let cells = self.cells;
+        for (i, c) in cells[..cells.len().min(MOST_CELLS)].iter().enumerate() {
+            put_words(
+                part,
+                CELLS_AT + 16 * i,
+                &[c.location.0, c.property, tag(c.value), word(c.value)],
+            );
+        }
+    }
+}
+
+// The heading of the table
 pub fn write_heading(table: &mut [u8], rows: u32, terms: u32)
     ensures { table.new ≡ put_words table.old 0 (rows ∷ terms ∷ []) }
 {
-    put_pair(table, 0, rows, terms);
+    put_words(table, 0, &[rows, terms]);
 }
 
-// A finished row, written into its own part of the table: that of its number, from 0.
-pub fn finish_row(
-    table: &mut [u8],
-    number: u32,
-    head: Head,
-    conditions: &[u32; CONDITIONS],
-    store: &[u64; STORE_WORDS],
-    frame: u32,
-    cells: [Cell; MOST_CELLS],
-)
-    ensures { table.new ≡ with_row_at table.old number head conditions.now store.now frame cells }
+// Things one after another from a place, each as two words. Cells, of four words, have a loop of their own: a bound of `Fn` that names a const
+// parameter, as `[u32; N]`, has no generated proof.
+fn write_pairs<T, F: Fn(&T) -> (u32, u32)>(part: &mut [u8], at: usize, things: &[T], pair: F)
+    requires callable { F.IsAlwaysCallable pair }
+    requires within { at + 8 * length things.now < 2 ^ 63 }
+    ensures { (f : T → List ℕ) → ((x : T) (r : ℕ × ℕ) → FnReturnsAt F.Fn pair x r → r.0 ∷ r.1 ∷ [] ≡ f x) → part.new ≡ put_words part.old at (gather f things.now) }
 {
-    if number >= MOST_ROWS {
-        return;
-    }
-    let at = HEADING_BYTES + ROW_BYTES * number as usize;
-    if at > table.len() {
-        return;
-    }
-    write_row(&mut table[at..], head, conditions, store, frame, cells);
-}
-
-// A row: `part` begins where the row does, conditions are 2 × term + truth, the variables are those of one frame of the store. The cells are
-// gone through here, since a function of their own would be handed a copy of all 32.
-pub fn write_row(
-    part: &mut [u8],
-    head: Head,
-    conditions: &[u32; CONDITIONS],
-    store: &[u64; STORE_WORDS],
-    frame: u32,
-    cells: [Cell; MOST_CELLS],
-)
-    ensures { part.new ≡ with_row part.old head conditions.now store.now frame cells }
-{
-    write_head(part, head);
-    write_conditions(part, head.conditions, conditions);
-    write_variables(part, head.variables, store, frame);
-    let n = at_most(CELLS, head.cells) as usize;
-    let mut i = 0;
-    while i < n {
-        let c = cells[i];
-        write_cell(part, i, c);
-        i += 1;
+    for (i, thing) in things.iter().enumerate() {
+        let (first, second) = pair(thing);
+        put_words(part, at + 8 * i, &[first, second]);
     }
 }
 
-// Two words side by side
-fn put_pair(part: &mut [u8], at: usize, x: u32, y: u32)
-    requires { at < row_length }
-    ensures { part.new ≡ put_words part.old at (x ∷ y ∷ []) }
+// Words one after another from a place
+fn put_words(part: &mut [u8], at: usize, words: &[u32])
+    requires { at + 4 * length words.now < 2 ^ 63 }
+    ensures { part.new ≡ put_words part.old at words.now }
 {
-    put_word(part, at, x);
-    put_word(part, at + 4, y);
-}
-
-fn write_head(part: &mut [u8], head: Head)
-    ensures { part.new ≡ put_words part.old 0 (head_of head) }
-{
-    put_pair(part, OUTCOME_AT, head.outcome, head.tag);
-    put_pair(part, VALUE_AT, head.word, head.steps);
-    put_pair(part, PROCEDURE_AT, head.procedure, head.command);
-    put_pair(part, INPUTS_AT, head.inputs, head.conditions);
-    put_pair(part, VARIABLES_COUNT_AT, head.variables, head.cells);
-}
-
-fn write_conditions(part: &mut [u8], count: u32, conditions: &[u32; CONDITIONS])
-    ensures { part.new ≡ put_words part.old conditions_at (conditions_held count conditions.now) }
-{
-    let n = at_most(MOST_BRANCHES, count) as usize;
-    let mut i = 0;
-    while i < n {
-        let c = conditions[i];
-        put_pair(part, CONDITIONS_AT + 8 * i, c / 2, c % 2);
-        i += 1;
+    for (i, w) in words.iter().enumerate() {
+        put_word(part, at + 4 * i, *w);
     }
-}
-
-fn write_variables(part: &mut [u8], count: u32, store: &[u64; STORE_WORDS], frame: u32)
-    ensures { part.new ≡ put_words part.old variables_at (variables_held count store.now frame) }
-{
-    if frame >= MOST_FRAMES {
-        return;
-    }
-    let first = FRAME_WORDS * frame as usize;
-    let n = at_most(VARIABLES, count) as usize;
-    let mut i = 0;
-    while i < n {
-        let v = store[first + i];
-        put_pair(part, VARIABLES_AT + 8 * i, tag(v), word(v));
-        i += 1;
-    }
-}
-
-fn write_cell(part: &mut [u8], i: usize, c: Cell)
-    requires { i < most_cells }
-    ensures { part.new ≡ put_words part.old (cells_at + 16 * i) (cell_of c) }
-{
-    put_pair(part, CELLS_AT + 16 * i, c.location.0, c.property);
-    put_pair(part, CELL_VALUES_AT + 16 * i, tag(c.value), word(c.value));
 }

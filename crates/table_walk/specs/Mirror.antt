@@ -1,9 +1,8 @@
 -- The exploration on words, from a path on: what `walk` answers and leaves. Assumes nothing.
-use Rattle.std.specs.Prelude.{ℕ, zero, suc, ◌+◌, ◌-◌, ◌%◌, false, List, replicate, eqb}
-use Rattle.gil.specs.Numbers.{most_inputs, for_terms}
+use Rattle.std.specs.Prelude.{ℕ, zero, suc, ◌+◌, ◌-◌, ◌%◌, List, eqb, Option, None, Some}
+use Rattle.gil.specs.Machine as Machine
+use Rattle.gil.specs.Numbers.{for_terms}
 use Rattle.machine_code.specs.Mirror.{if?}
-use Rattle.machine_cells.specs.declared.Cell.{Cell}
-use Rattle.machine_cells.specs.Mirror.{held_in}
 use Rattle.machine_commands.specs.declared.Control.{Control}
 use Rattle.machine_commands.specs.declared.Next.{Next}
 use Rattle.machine_commands.specs.declared.Next.TheVariants.{On, Returned, Failed, Vanished, Error, Fork}
@@ -25,7 +24,7 @@ reached n r t p k = record { refusal = n; rows = r; table = t; pool = p; count =
 
 unfoldable pub row_in : List ℕ → ℕ → List ℕ → ℕ → List ℕ → Stopped → Reached
 row_in code branches conditions rows table f =
-    let w = finish_in code branches conditions rows table f.cut f.next f.control f.steps f.store f.cells in
+    let w = finish_in code branches conditions rows table f.next f.control f.steps f.store f.cells in
     reached w.refusal w.rows w.table f.pool f.count
 
 -- the other branch, where the first was not refused
@@ -33,25 +32,26 @@ unfoldable pub after_first : Reached → (Reached → Reached) → Reached
 after_first r f = if? (eqb r.refusal 0) (f r) r
 
 -- what a path that stopped comes to, where a fork's branches are known
-unfoldable pub turn_by : (ℕ → Control → Control → Reached) → Reached → Next → Reached
-turn_by forks row (On d) = row
-turn_by forks row (Returned t w) = row
-turn_by forks row (Failed t w) = row
-turn_by forks row Vanished = row
-turn_by forks row (Error e) = row
-turn_by forks row (Fork t a b) = forks t a b
+unfoldable pub turn_by : (ℕ → Control → Control → Reached) → Reached → Option Next → Reached
+turn_by forks row None = row
+turn_by forks row (Some (On d)) = row
+turn_by forks row (Some (Returned t w)) = row
+turn_by forks row (Some (Failed t w)) = row
+turn_by forks row (Some Vanished) = row
+turn_by forks row (Some (Error e)) = row
+turn_by forks row (Some (Fork t a b)) = forks t a b
 
 unfoldable pub settle_by : (ℕ → Control → Control → Reached) → Reached → ℕ → List ℕ → Stopped → Reached
 settle_by forks row rows table f =
-    if? (full_in f.cut f.count) (reached for_terms rows table f.pool f.count) (turn_by forks row f.next)
+    if? (full_in f.next f.count) (reached for_terms rows table f.pool f.count) (turn_by forks row f.next)
 
 -- a path's branches: the number of its steps, its conditions, where it stands, the exploration so far
 abbrev pub Walk : Type 0
 Walk = ℕ → ℕ → List ℕ → Spot → ℕ → List ℕ → Reached
 
-module _ (code inputs : List ℕ) (budget : ℕ) where
+module _ (code : List ℕ) (budget : ℕ) where
   abbrev pub onwards : ℕ → Spot → Stopped
-  onwards n s = follow_in (one_in code false inputs) (budget - n) n s
+  onwards n s = follow_in (one_in code None) (budget - n) n s
 
   -- "true branch first, to its end, and then the false one"
   unfoldable pub fork_by : Walk → ℕ → List ℕ → ℕ → List ℕ → Stopped → ℕ → Control → Control → Reached
@@ -71,7 +71,6 @@ module _ (code inputs : List ℕ) (budget : ℕ) where
       let f = onwards n s in
       settle_by (fork_by (walk_in k) branches conditions rows table f) (row_in code branches conditions rows table f) rows table f
 
-unfoldable pub walks_in : List ℕ → Budgets → Branch → List ℕ → List ℕ → List Cell → ℕ → List ℕ → List ℕ → ℕ → Reached
-walks_in code budgets b conditions store cells rows table pool count =
-    walk_in code (replicate most_inputs 0) budgets.steps (budgets.branches - b.branches) b.steps b.branches conditions
-    (spot b.control store (held_in b.held cells) pool count) rows table
+unfoldable pub walks_in : List ℕ → Budgets → Branch → List ℕ → List (Machine.Cell ℕ) → ℕ → List ℕ → List ℕ → ℕ → Reached
+walks_in code budgets b store cells rows table pool count =
+    walk_in code budgets.steps (budgets.branches - b.branches) b.steps b.branches b.conditions (spot b.control store cells pool count) rows table

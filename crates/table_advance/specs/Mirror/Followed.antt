@@ -1,5 +1,5 @@
 -- A path followed on words, from one fork to the next: what `follow` answers and leaves, over what one command comes to. Assumes nothing.
-use Rattle.std.specs.Prelude.{ℕ, zero, suc, Bool, true, false, List, nat_le}
+use Rattle.std.specs.Prelude.{ℕ, zero, suc, Bool, false, List, nat_le, Option, None, Some, Result, Ok, Err}
 use Rattle.gil.specs.Numbers.{most_terms}
 use Rattle.gil.specs.Machine as Machine
 use Rattle.machine_code.specs.Mirror.{if?}
@@ -7,10 +7,8 @@ use Rattle.machine_commands.specs.declared.Control.{Control}
 use Rattle.machine_commands.specs.declared.Next.{Next}
 use Rattle.machine_commands.specs.declared.Next.TheVariants.{On, Returned, Failed, Vanished, Error, Fork}
 use Rattle.machine_commands.specs.Mirror.{fetch_in}
-use Rattle.machine_actions.specs.Laws.Changed.{Changed}
-use Rattle.machine_laws.specs.Laws.Engine.{engine_in}
+use Rattle.machine_actions.specs.Laws.Changed.{Changed, engine_in}
 use Rattle.table_advance.specs.declared.Stop.{Stop}
-use Rattle.machine_cells.specs.Mirror.{held_in}
 
 -- where a path stands in words: a cell is one in use, its value a word
 pub record Spot : Type 0 where
@@ -20,10 +18,9 @@ pub record Spot : Type 0 where
   pub pool : List ℕ
   pub count : ℕ
 
--- what a path comes to: how it stopped, where, after how many steps, and the words
+-- what a path comes to: what the command that stopped it came to, or none where its steps are used up, where, after how many steps, and the words
 pub record Stopped : Type 0 where
-  pub cut : Bool
-  pub next : Next
+  pub next : Option Next
   pub control : Control
   pub steps : ℕ
   pub store : List ℕ
@@ -34,18 +31,22 @@ pub record Stopped : Type 0 where
 abbrev pub spot : Control → List ℕ → List (Machine.Cell ℕ) → List ℕ → ℕ → Spot
 spot c s l p k = record { control = c; store = s; cells = l; pool = p; count = k }
 
-abbrev pub stopped : Stop → List ℕ → List ℕ → ℕ → Stopped
-stopped r s p k =
+abbrev pub stopped : Stop → List ℕ → List (Machine.Cell ℕ) → List ℕ → ℕ → Stopped
+stopped r s l p k =
     record {
-      cut = r.cut;
       next = r.next;
       control = r.control;
       steps = r.steps;
       store = s;
-      cells = held_in r.held r.cells;
+      cells = l;
       pool = p;
       count = k;
     }
+
+-- what a command came to, where a path goes on or is stopped by it
+abbrev pub next_of : Result Control Next → Next
+next_of (Ok to) = On to
+next_of (Err next) = next
 
 -- a command goes on, within the terms that there is room for
 unfoldable pub goes_in : Next → ℕ → Bool
@@ -71,8 +72,7 @@ spot_after s o =
 unfoldable pub cut_at : ℕ → Spot → Stopped
 cut_at n s =
     record {
-      cut = true;
-      next = Vanished;
+      next = None;
       control = s.control;
       steps = n;
       store = s.store;
@@ -84,8 +84,7 @@ cut_at n s =
 unfoldable pub stopped_at : ℕ → Spot → Changed → Stopped
 stopped_at n s o =
     record {
-      cut = false;
-      next = o.kept.next;
+      next = Some o.kept.next;
       control = s.control;
       steps = n;
       store = o.kept.store;
@@ -101,6 +100,5 @@ follow_in one (suc k) n s =
     if? (goes_in (one s).kept.next (one s).count) (follow_in one k (suc n) (spot_after s (one s))) (stopped_at n s (one s))
 
 -- one command on a program's words: the engine's move
-unfoldable pub one_in : List ℕ → Bool → List ℕ → Spot → Changed
-one_in code known inputs s =
-    engine_in code s.control (fetch_in code s.control.procedure s.control.command) known inputs s.cells s.store s.pool s.count
+unfoldable pub one_in : List ℕ → Option (List ℕ) → Spot → Changed
+one_in code known s = engine_in code s.control (fetch_in code s.control.procedure s.control.command) known s.cells s.store s.pool s.count

@@ -1,13 +1,14 @@
 -- How far an exploration is, in words: its refusal, or the rows in the table and the terms in the pool; a row finished, and a condition gained.
 -- Assumes nothing.
-use Rattle.std.specs.Prelude.{ℕ, ◌+◌, ◌*◌, ◌%◌, ◌<◌, ◌≤◌, Bool, ◌≡◌, refl, take}
+use Rattle.std.specs.Prelude.{ℕ, ◌+◌, ◌*◌, ◌%◌, ◌<◌, ◌≤◌, Bool, ◌≡◌, refl, take, Option}
 use Rattle.std.proofs.Math.Bool.{true, false}
-use Rattle.std.proofs.Common.{◌∙◌, arith, add-one, length-set, take_all, take-suc-set, lt-ltb, leb-false}
+use Rattle.std.proofs.Common.{◌∙◌, arith, add-one, length-set, take-suc-set, lt-ltb, leb-false}
 use Rattle.std.proofs.Math.Path.{ap}
 use mathlib.Core.List.{List, [], ◌∷◌, ◌++◌, map}
-use Rattle.std.proofs.Math.ListN.{length, length-map, length-append}
+use Rattle.std.proofs.Math.ListN.{length, length-append}
 use Rattle.std.proofs.Math.Dec.{leb}
 use Rattle.gil.specs.Numbers.{most_branches, most_rows, most_terms, most_cells, for_rows}
+use Rattle.gil.specs.Codes.{outcome_number}
 use Rattle.gil.specs.Names.{Program}
 use Rattle.gil.specs.Values.{term}
 use Rattle.gil.specs.Machine as Machine
@@ -24,7 +25,7 @@ use Rattle.machine_code.specs.WellFormed.{WellFormed}
 use Rattle.machine_terms.specs.Laws.Engine.{As, ValueAs}
 use Rattle.machine_terms.specs.Laws.Pooled.{RefAs, a_number_term, a_boolean_term, pooled_engine, value-words}
 use Rattle.machine_cells.specs.declared.Cell.{Cell}
-use Rattle.machine_cells.specs.Mirror.{cell_of, held_in}
+use Rattle.machine_cells.specs.Mirror.{cell_of}
 use Rattle.machine_commands.specs.declared.Control.{Control}
 use Rattle.machine_commands.specs.declared.Next.{Next}
 use Rattle.machine_laws.specs.Laws.State.{CellsAs, no_cells, a_cell}
@@ -122,27 +123,24 @@ condition-gained {b} {cs} {conditions} c x h low e =
 module _ (p : Program) (ok : WellFormed p) {w₀ w : pooled.World} (grown : Grows as_trees w₀ w) (room : pooled.made w ≤ most_terms)
     (rows : List (Row pooled.Term)) {many : ℕ} (table : List ℕ) (t : Tabled rows table) (same : many ≡ length rows)
     (q : Path pooled.Term) {b : ℕ} {conditions : List ℕ} (cs : ConditionsAs b q.conditions conditions) (most : b ≤ most_branches) where
-  pub finish_as : {o : Rows.Outcome pooled.Term} {n : ℕ} {c : Control} {store : List ℕ} {ds : List (Machine.Cell ℕ)} (pool : List ℕ) (count : ℕ) (cut : Bool) (next : Next) (m : ℕ)
+  pub finish_as : {o : Rows.Outcome pooled.Term} {n : ℕ} {c : Control} {store : List ℕ} {ds : List (Machine.Cell ℕ)} (pool : List ℕ) (count : ℕ) (next : Option Next) (m : ℕ)
       → StateAs pooled_engine p q.state c store ds
       → length q.state.memory.cells ≤ most_cells
       → pooled_engine.WorldAs w pool count
-      → OutcomeAs (As pooled_engine) o (ended_in cut next m).outcome (ended_in cut next m).tag (ended_in cut next m).word
-      → (ended_in cut next m).steps ≡ n
+      → OutcomeAs (As pooled_engine) o (outcome_number (ended_in next m).outcome) (ended_in next m).tag (ended_in next m).word
+      → (ended_in next m).steps ≡ n
       → ReachedAs w₀ (finish w rows (row_of o n q))
       (row_in (program_words p) b conditions many table
-      (record { cut = cut; next = next; control = c; steps = m; store = store; cells = ds; pool = pool; count = count }))
+      (record { next = next; control = c; steps = m; store = store; cells = ds; pool = pool; count = count }))
   unfolding finish row_in finish_in
-  finish_as {o} {n} {c} {store} {ds} pool count cut next m h few world outcome taken =
-      let long : length (map cell_back ds) ≡ length ds = length-map ds cell_back in
-      let held : held_in (length ds) (map cell_back ds) ≡ ds =
-      ap (λ (l : List Cell). map cell_of l) (take_all (length ds) (map cell_back ds) (omega arith)) ∙ back-cells h.memory.cells in
-      let row : RowAs (As pooled_engine) place (row_of o n q) (head_in (program_words p) (ended_in cut next m) c b (length ds)) conditions store c.frame (map cell_back ds) =
-      row_as pooled_engine p ok place q h few outcome taken cs.size most cs.held (omega arith) held in
+  finish_as {o} {n} {c} {store} {ds} pool count next m h few world outcome taken =
+      let row : RowAs (As pooled_engine) place (row_of o n q) (head_in (program_words p) (ended_in next m) c b) conditions store c.frame (map cell_back ds) =
+      row_as pooled_engine p ok place q h few (ended_in next m) outcome taken cs.size most cs.held (back-cells h.memory.cells) in
       chosen
       (λ (e : Explored pooled.World pooled.Term).
       ReachedAs w₀ e
       (row_in (program_words p) b conditions many table
-      (record { cut = cut; next = next; control = c; steps = m; store = store; cells = ds; pool = pool; count = count })))
+      (record { next = next; control = c; steps = m; store = store; cells = ds; pool = pool; count = count })))
       (leb most_rows (length rows))
       (λ e. let f : leb most_rows many ≡ true = ap (leb most_rows) same ∙ e in a_refusal {n = for_rows} (rw f) (λ z. absurd (omega arith)))
       (λ e.

@@ -1,13 +1,13 @@
 -- The exploration on a program's words is document 01's: where a path stops both go on alike, so by the branches left the walk on words is `walk`,
 -- and what `explore` leaves is the table and the pool of `table`, or the refusal and zeros. Assumes nothing.
 use Prim.Native.Nat.{ℕ, zero, suc, ◌+◌, ◌-◌, ◌%◌, ◌<◌, ◌≤◌}
-use Rattle.std.specs.Prelude.{Bool, refl, List, [], ◌∷◌, ◌++◌, length, replicate}
+use Rattle.std.specs.Prelude.{Bool, refl, List, [], ◌∷◌, ◌++◌, length, None, Some}
 use Rattle.std.proofs.Math.Bool.{true, false}
 use Rattle.std.proofs.Math.Path.{◌≡◌, sym, ap}
 use Rattle.std.proofs.Common.{◌∙◌, arith}
 use Rattle.std.proofs.Math.Dec.{ltb, leb}
 use borrow.Author.Tests.{ltb-false, le-leb, lt-leb, eq-eqb, ne_eqb}
-use Rattle.gil.specs.Numbers.{most_steps, most_branches, most_terms, most_inputs, most_cells, for_terms}
+use Rattle.gil.specs.Numbers.{most_steps, most_branches, most_terms, most_cells, for_terms}
 use Rattle.gil.specs.Names.{Program}
 use Rattle.gil.specs.Machine as Machine
 use Rattle.gil.specs.Machine.{State, move, fork}
@@ -25,7 +25,7 @@ use Rattle.machine_code.specs.WellFormed.{WellFormed}
 use Rattle.machine_terms.specs.Laws.Pooled.{pooled_engine}
 use Rattle.machine_commands.specs.declared.Control.{Control}
 use Rattle.machine_commands.specs.declared.Next.{Next}
-use Rattle.machine_commands.specs.declared.Next.TheVariants.{Vanished, Fork}
+use Rattle.machine_commands.specs.declared.Next.TheVariants.{Fork}
 use Rattle.machine_laws.specs.Laws.Moves.{StateAs}
 use Rattle.table_head.specs.Mirror.{end_of, ended_in}
 use Rattle.table_advance.specs.Mirror.Followed.{Spot, spot, Stopped, goes_in, cut_at, stopped_at}
@@ -48,12 +48,12 @@ walk_refused p most zero q n = refl
 walk_refused p most (suc j) q n = refl
 
 -- an end finishes a row
-turn_end : {e : Machine.End pooled.Term} {r : Next} (f : ℕ → Control → Control → Reached) (row : Reached) → EndAs pooled_engine e r → turn_by f row r ≡ row
+turn_end : {e : Machine.End pooled.Term} {r : Next} (f : ℕ → Control → Control → Reached) (row : Reached) → EndAs pooled_engine e r → turn_by f row (Some r) ≡ row
 unfolding turn_by
 turn_end f row (end_returned h) = refl
 turn_end f row (end_failed h) = refl
 turn_end f row end_vanished = refl
-turn_end f row end_erred = refl
+turn_end f row (end_erred e) = refl
 
 -- the states of a fork, and its term, stand in the pool
 record ForkReads (v : pooled.World) (t : pooled.Term) (a b : State pooled.Term) : Type 0 where
@@ -77,8 +77,7 @@ pub record AtFork (p : Program) (budget : ℕ) (w v : pooled.World) (s a b : Sta
   pub pool : pooled_engine.WorldAs v g.pool g.count
   pub here : StateAs pooled_engine p s g.control g.store g.cells
   pub few : length s.memory.cells ≤ most_cells
-  pub is_on : g.cut ≡ false
-  pub is_fork : g.next ≡ Fork (y % 4294967296) ca cb
+  pub is_fork : g.next ≡ Some (Fork (y % 4294967296) ca cb)
   pub term : pooled_engine.TermAs t y
   pub inside : place t < most_terms
   pub yes : StateAs pooled_engine p a ca g.store g.cells
@@ -112,23 +111,23 @@ module _ (p : Program) (ok : WellFormed p) (budget most : ℕ) (small : budget �
         → count ≤ most_terms
         → goes_in r count ≡ false
         → m + suc j ≡ budget
-        → let f : Stopped = record { cut = false; next = r; control = x; steps = m; store = store'; cells = ds'; pool = pool; count = count } in
+        → let f : Stopped = record { next = Some r; control = x; steps = m; store = store'; cells = ds'; pool = pool; count = count } in
         ReachedAs w (walk_turn (walk pooled p most j) v rows (turned most (record { state = s; steps = m; conditions = cs }) nx))
-        (turn_by (F f) (row_in (program_words p) b conditions many table f) r)
+        (turn_by (F f) (row_in (program_words p) b conditions many table f) (Some r))
     unfolding walk_turn turned turn_by goes_in ended_in
     came-by pool count m j (came_on h) fits reads k cells grown room world low e left =
         let z : ◌≡◌ {A = Bool} true false = sym (le-leb count most_terms low) ∙ e in
         let y : ◌≡◌ {A = ℕ} 0 1 = cc in
         absurd (omega arith)
     came-by {v} {s} {x} {store} {ds = ds} pool count m j (came_end {e = e} {r = r} h) fits reads k cells grown room world low g left =
-        let f : Stopped = record { cut = false; next = r; control = x; steps = m; store = store; cells = ds; pool = pool; count = count } in
+        let f : Stopped = record { next = Some r; control = x; steps = m; store = store; cells = ds; pool = pool; count = count } in
         let q : Path pooled.Term = record { state = s; steps = m; conditions = cs } in
         rw (turn_end (F f) (row_in (program_words p) b conditions many table f) h)
-        (finish_as p ok grown room rows table t same q c branches_fit pool count false r m k cells world
+        (finish_as p ok grown room rows table t same q c branches_fit pool count (Some r) m k cells world
         (end-outcome pooled_engine m h) (end-steps pooled_engine m (omega arith) h))
     came-by {v} {s} {x} {store} {ds = ds} pool count m j (came_fork {t = u} {x = y} {a = a} {b = a'} {ca = ca} {cb = cb} h ha hb) (few_fork fa fb) reads k cells grown room world low g left =
         let f : Stopped =
-        record { cut = false; next = Fork (y % 4294967296) ca cb; control = x; steps = m; store = store; cells = ds; pool = pool; count = count } in
+        record { next = Some (Fork (y % 4294967296) ca cb); control = x; steps = m; store = store; cells = ds; pool = pool; count = count } in
         let held = fork-reads reads room in
         fork-as v s a a' u y j f ca cb
         (record {
@@ -137,7 +136,6 @@ module _ (p : Program) (ok : WellFormed p) (budget most : ℕ) (small : budget �
           pool = world;
           here = k;
           few = cells;
-          is_on = refl;
           is_fork = refl;
           term = h;
           inside = held.inside;
@@ -163,12 +161,12 @@ module _ (p : Program) (ok : WellFormed p) (budget most : ℕ) (small : budget �
         → count ≡ pooled.made v
         → goes_in r count ≡ false
         → m + suc j ≡ budget
-        → let f : Stopped = record { cut = false; next = r; control = x; steps = m; store = store'; cells = ds'; pool = pool; count = count } in
+        → let f : Stopped = record { next = Some r; control = x; steps = m; store = store'; cells = ds'; pool = pool; count = count } in
         ReachedAs w (walk_move pooled p most (walk pooled p most j) (record { state = s; steps = m; conditions = cs }) rows (record { world = v; next = nx }))
         (settle_by (F f) (row_in (program_words p) b conditions many table f) many table f)
     unfolding walk_move overfull turn_in settle_by full_in
     moved_by {v} {s} {x} {store' = store'} {ds' = ds'} {r = r} pool count m j k fits reads h cells grown world counted g left =
-        let f : Stopped = record { cut = false; next = r; control = x; steps = m; store = store'; cells = ds'; pool = pool; count = count } in
+        let f : Stopped = record { next = Some r; control = x; steps = m; store = store'; cells = ds'; pool = pool; count = count } in
         chosen
         (λ (e : Explored pooled.World pooled.Term).
         ReachedAs w e (settle_by (F f) (row_in (program_words p) b conditions many table f) many table f))
@@ -189,7 +187,7 @@ module _ (p : Program) (ok : WellFormed p) (budget most : ℕ) (small : budget �
     stops_as {v = v} {s = s} {x = x} (used_up {n = m} e) i h left =
         let q : Path pooled.Term = record { state = s; steps = m; conditions = cs } in
         rw e
-        (finish_as p ok i.grown i.terms rows table t same q c branches_fit x.pool x.count true Vanished m h.state i.cells h.world
+        (finish_as p ok i.grown i.terms rows table t same q c branches_fit x.pool x.count None m h.state i.cells h.world
         (a_cut {why = steps}) refl)
     stops_as {v = v} {s = s} {x = x} (by_command {j = j} {n = m} g e) i h left =
         let k = one_as pooled_engine p ok h in
@@ -222,7 +220,7 @@ module _ (p : Program) (ok : WellFormed p) (budget most : ℕ) (small : budget �
       → Tabled rows table
       → many ≡ length rows
       → ReachedAs w (walk pooled p most (budget - n) (record { state = s; steps = n; conditions = cs }) (explored w rows))
-      (walk_in (program_words p) (replicate most_inputs 0) budget k n b conditions x many table)
+      (walk_in (program_words p) budget k n b conditions x many table)
 
   turned-cut : (q : Path pooled.Term) (t : pooled.Term) (a b : State pooled.Term) → leb most (length q.conditions) ≡ true
       → turned most q (fork t a b) ≡ Explore.finishes (cut_for branches q)
@@ -250,8 +248,8 @@ module _ (p : Program) (ok : WellFormed p) (budget most : ℕ) (small : budget �
       let q : Path pooled.Term = record { state = s; steps = g.steps; conditions = cs } in
       let full : leb most (length cs) ≡ true = le-leb most (length cs) (omega (arith, c.size)) in
       rw (turned-cut q u a a' full)
-      (finish_as p ok h.grown h.room rows table t same q c (omega arith) g.pool g.count g.cut g.next g.steps h.here h.few h.pool
-      (rw (h.is_on, h.is_fork) (a_cut {why = branches})) (rw (h.is_on, h.is_fork)))
+      (finish_as p ok h.grown h.room rows table t same q c (omega arith) g.pool g.count g.next g.steps h.here h.few h.pool
+      (rw h.is_fork (a_cut {why = branches})) (rw h.is_fork))
 
   -- the second branch, where the first was not refused
   then_as : {v : pooled.World} {e : Explored pooled.World pooled.Term} {r : Reached} (f : Reached → Reached) (j : ℕ) (q : Path pooled.Term)
@@ -278,7 +276,7 @@ module _ (p : Program) (ok : WellFormed p) (budget most : ℕ) (small : budget �
         → Tabled rows table
         → many ≡ length rows
         → ReachedAs u (walk pooled p most j (branched t truth s' (record { state = s; steps = g.steps; conditions = cs })) (explored u rows))
-        (walk_in (program_words p) (replicate most_inputs 0) budget k ((g.steps + 1) % 4294967296) (b + 1)
+        (walk_in (program_words p) budget k ((g.steps + 1) % 4294967296) (b + 1)
         (conditions_with b (condition_on (y % 4294967296) (bit truth)) conditions) (spot c' g.store g.cells pool count) many table)
     unfolding branched
     branch_as truth s' c' u pool count many table rows stands cells reads room world t' same =
@@ -303,7 +301,7 @@ module _ (p : Program) (ok : WellFormed p) (budget most : ℕ) (small : budget �
         → many ≡ length rows
         → ReachedAs w
         (walk_turn (walk pooled p most j) v rows (turned most (record { state = s; steps = g.steps; conditions = cs }) (fork t a a')))
-        (fork_by (program_words p) (replicate most_inputs 0) budget (walk_in (program_words p) (replicate most_inputs 0) budget k) b conditions many table g (y % 4294967296) ca cb)
+        (fork_by (program_words p) budget (walk_in (program_words p) budget k) b conditions many table g (y % 4294967296) ca cb)
     unfolding walk_turn fork_by bit
     forked rows many table t' same =
         let q : Path pooled.Term = record { state = s; steps = g.steps; conditions = cs } in
@@ -325,6 +323,6 @@ module _ (p : Program) (ok : WellFormed p) (budget most : ℕ) (small : budget �
       h.taken (explores p ok w (budget - n) n w s x h.sound h.stands)
   walks (suc k) n b conditions x many table w s cs rows h t same =
       settles cs rows table t same h.gained (omega (arith, h.left))
-      (λ g. fork_by (program_words p) (replicate most_inputs 0) budget (walk_in (program_words p) (replicate most_inputs 0) budget k) b conditions many table g)
+      (λ g. fork_by (program_words p) budget (walk_in (program_words p) budget k) b conditions many table g)
       (λ v s a a' u y j g ca cb f. forked (walks k) cs h.gained h.left f rows many table t same)
       h.taken (explores p ok w (budget - n) n w s x h.sound h.stands)

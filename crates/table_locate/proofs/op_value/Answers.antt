@@ -1,16 +1,16 @@
 -- `locate::op_value` meets its contract. Assumes nothing.
-use borrow.Author.Tests.{lt-ltb, le-ltb, eq-eqb, ne_eqb}
+use Rattle.std.proofs.Common.{rules, tests}
 use Rattle.table_locate.specs.Mirror.{op_value}
 use Rattle.table_locate.proofs.op_value.Goals as goal
 
-pub returns-then-kind-eq-NOT_KIND : goal.returns-then-kind-eq-NOT_KIND
+pub returns-then-kind : goal.returns-then-kind
 unfolding op_value
-returns-then-kind-eq-NOT_KIND c = simp (eq-eqb _ _ c.if-kind-eq-NOT_KIND.true) c.truth.ensures
+returns-then-kind c = search (rules, tests)
 
-pub returns-then-kind-gt-OR_KIND : goal.returns-then-kind-gt-OR_KIND
+pub returns-then-kind-2 : goal.returns-then-kind-2
 unfolding op_value
-returns-then-kind-gt-OR_KIND c = simp (ne_eqb _ _ c.if-kind-eq-NOT_KIND.false, lt-ltb _ _ c.if-kind-gt-OR_KIND.true)
+returns-then-kind-2 c = search (rules, tests)
 
 pub returns : goal.returns
 unfolding op_value
-returns c = simp (ne_eqb _ _ c.if-kind-eq-NOT_KIND.false, le-ltb _ _ c.if-kind-gt-OR_KIND.false) c.work.ensures
+returns c = search (rules, tests)

@@ -1,12 +1,12 @@
 -- `locate::operand` meets its contract. Assumes nothing.
-use borrow.Author.Tests.{lt-ltb, le-ltb}
+use Rattle.std.proofs.Common.{rules, tests}
 use Rattle.table_locate.specs.Mirror.{operand_word}
 use Rattle.table_locate.proofs.operand.Goals as goal
 
-pub returns-then-tag-lt-NUMBER_TERM_TAG : goal.returns-then-tag-lt-NUMBER_TERM_TAG
+pub returns-then-tag : goal.returns-then-tag
 unfolding operand_word
-returns-then-tag-lt-NUMBER_TERM_TAG c = simp (lt-ltb _ _ c.if-tag-lt-NUMBER_TERM_TAG.true)
+returns-then-tag c = search (rules, tests)
 
 pub returns : goal.returns
 unfolding operand_word
-returns c = simp (le-ltb _ _ c.if-tag-lt-NUMBER_TERM_TAG.false) c.value_word.ensures
+returns c = search (rules, tests)

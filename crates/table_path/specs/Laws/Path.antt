@@ -5,12 +5,13 @@ use Prim.Native.Nat.{ℕ, zero, suc, ◌+◌, ◌*◌, ◌/◌, ◌%◌, ◌<◌
 use Rattle.std.specs.Prelude.{Bool, List, [], ◌∷◌, map, take, leb}
 use Rattle.std.proofs.Math.Bool.{true, false}
 use Rattle.std.proofs.Math.Path.{◌≡◌, refl, sym, ap}
-use Rattle.std.proofs.Common.{◌∙◌, length-take-le}
+use Rattle.std.proofs.Common.{◌∙◌}
 use Rattle.std.proofs.Math.Option.{Option}
 use native.Mathlib.Omega.{arith}
 use Rattle.std.proofs.Math.ListN.{length}
-use Rattle.std.proofs.lemmas.List.{length-map}
 use Rattle.gil.specs.Numbers.{most_terms, most_cells}
+use Rattle.gil.specs.Codes.{error_number, outcome_number}
+use Rattle.gil.specs.declared.errors.Error as Errors
 use Rattle.gil.specs.Names.{Program}
 use Rattle.gil.specs.Values.{Value, term}
 use Rattle.gil.specs.Machine as Machine
@@ -25,19 +26,18 @@ use Rattle.machine_code.specs.Mirror.{if?}
 use Rattle.machine_terms.specs.Laws.Engine.{Engine, As, ValueAs}
 use Rattle.machine_evaluate.specs.Laws.{SlotAs, unbound, bound}
 use Rattle.machine_cells.specs.declared.Cell.{Cell}
-use Rattle.machine_cells.specs.Mirror.{cell_of, held_in}
+use Rattle.machine_cells.specs.Mirror.{cell_of}
 use Rattle.machine_commands.specs.declared.Control.{Control}
 use Rattle.machine_commands.specs.declared.Next.{Next}
 use Rattle.machine_commands.specs.declared.Next.TheVariants.{On, Returned, Failed, Vanished, Error, Fork}
 use Rattle.machine_actions.specs.Laws.Changed.{Changed}
 use Rattle.machine_laws.specs.Laws.State.{CellsAs, no_cells, a_cell, FrameAt, top}
-use Rattle.machine_laws.specs.Laws.Memory.{cells-length}
 use Rattle.machine_laws.specs.Laws.Moves.{StateAs, NextAs, goes_on, has_returned, has_failed, has_vanished, has_erred, has_forked, MovedAs}
 use Rattle.machine_laws.specs.Laws.Words.{procedure-fits, variables-is}
 use Rattle.machine_laws.specs.Laws.Engine.{move_as}
 use Rattle.table_rows.specs.Laws.Held as Held
 use Rattle.table_rows.specs.Laws.Held.{Listed, ConditionAs, VariableAs, CellAs, OutcomeAs, a_return, a_fail, a_vanish, an_error, RowAs}
-use Rattle.table_head.specs.declared.Outcome.{Outcome}
+use Rattle.table_head.specs.declared.Ending.{Ending}
 use Rattle.table_path.specs.Laws.Few.{FewNext, few_on, few_end, few_fork}
 use Rattle.table_head.specs.Mirror.{end_of, head_in}
 use Rattle.table_advance.specs.Mirror.Followed.{Spot, Stopped, goes_in, where_in, spot_after, cut_at, stopped_at, follow_in, one_in}
@@ -58,7 +58,7 @@ onward-steps (moves e f o) = omega (arith, onward-steps o)
 
 module _ {M : Model} (E : Engine M) (p : Program) where
   abbrev pub one : Spot → Changed
-  one = one_in (program_words p) E.known E.inputs
+  one = one_in (program_words p) E.known
 
   pub record SpotAs (w : M.World) (s : State M.Term) (x : Spot) : Type 0 where
     pub state : StateAs E p s x.control x.store x.cells
@@ -101,7 +101,7 @@ module _ {M : Model} (E : Engine M) (p : Program) where
   gone-on c count (has_returned h) e = let z : ◌≡◌ {A = ℕ} 0 1 = cc in absurd (omega arith)
   gone-on c count (has_failed h) e = let z : ◌≡◌ {A = ℕ} 0 1 = cc in absurd (omega arith)
   gone-on c count has_vanished e = let z : ◌≡◌ {A = ℕ} 0 1 = cc in absurd (omega arith)
-  gone-on c count has_erred e = let z : ◌≡◌ {A = ℕ} 0 1 = cc in absurd (omega arith)
+  gone-on c count (has_erred x) e = let z : ◌≡◌ {A = ℕ} 0 1 = cc in absurd (omega arith)
   gone-on c count (has_forked h j k) e = let z : ◌≡◌ {A = ℕ} 0 1 = cc in absurd (omega arith)
 
   module _ (ok : WellFormed p) where
@@ -177,22 +177,22 @@ module _ {M : Model} (E : Engine M) where
     end_returned : {v : Value M.Term} {x : ℕ} → As E v x → EndAs (returned v) (Returned (x / 4294967296) (x % 4294967296))
     end_failed : {v : Value M.Term} {x : ℕ} → As E v x → EndAs (failed v) (Failed (x / 4294967296) (x % 4294967296))
     end_vanished : EndAs vanished Vanished
-    end_erred : {n : ℕ} → EndAs (error n) (Error n)
+    end_erred : (e : Errors.Error) → EndAs (error (error_number e)) (Error e)
 
   pub end-outcome : {e : Machine.End M.Term} {r : Next} (n : ℕ) → EndAs e r
-      → OutcomeAs (As E) (ended e) (end_of r n).outcome (end_of r n).tag (end_of r n).word
+      → OutcomeAs (As E) (ended e) (outcome_number (end_of r n).outcome) (end_of r n).tag (end_of r n).word
   unfolding end_of
   end-outcome n (end_returned h) = a_return h
   end-outcome n (end_failed h) = a_fail h
   end-outcome n end_vanished = a_vanish
-  end-outcome n end_erred = an_error
+  end-outcome n (end_erred e) = an_error
 
   pub end-steps : {e : Machine.End M.Term} {r : Next} (n : ℕ) → n < 4294967295 → EndAs e r → (end_of r n).steps ≡ suc n
   unfolding end_of
   end-steps n h (end_returned a) = omega arith
   end-steps n h (end_failed a) = omega arith
   end-steps n h end_vanished = omega arith
-  end-steps n h end_erred = omega arith
+  end-steps n h (end_erred e) = omega arith
 
   -- what a command comes to, with its ends in one
   pub data Came (p : Program) (store : List ℕ) (ds : List (Machine.Cell ℕ)) : Machine.Next M.Term → Next → List ℕ → List (Machine.Cell ℕ) → Type 0 where
@@ -215,7 +215,7 @@ module _ {M : Model} (E : Engine M) where
   came (has_returned h) = came_end (end_returned h)
   came (has_failed h) = came_end (end_failed h)
   came has_vanished = came_end end_vanished
-  came has_erred = came_end end_erred
+  came (has_erred e) = came_end (end_erred e)
   came (has_forked h j k) = came_fork h j k
 
 -- cells as the row writer takes them
@@ -244,23 +244,17 @@ module _ {T : Type 0} (TermAs : T → ℕ → Type 0) where
 -- the row of a path in words
 module _ {M : Model} (E : Engine M) (p : Program) (ok : WellFormed p) (place : M.Term → ℕ) (q : Path M.Term) {c : Control} {store : List ℕ}
     {ds : List (Machine.Cell ℕ)} (h : StateAs E p q.state c store ds) (few : length q.state.memory.cells ≤ most_cells) where
-  pub row_as : {o : Rows.Outcome M.Term} {n held many : ℕ} {e : Outcome} {conditions : List ℕ} {cells : List Cell}
-      → OutcomeAs (As E) o e.outcome e.tag e.word
+  pub row_as : {o : Rows.Outcome M.Term} {n many : ℕ} (e : Ending) {conditions : List ℕ} {cells : List Cell}
+      → OutcomeAs (As E) o (outcome_number e.outcome) e.tag e.word
       → e.steps ≡ n
       → many ≡ length q.conditions
       → many ≤ 16
       → Listed (ConditionAs place) q.conditions (take many conditions)
-      → held ≤ length cells
-      → held_in held cells ≡ ds
-      → RowAs (As E) place (row_of o n q) (head_in (program_words p) e c many held) conditions store c.frame cells
+      → map cell_of cells ≡ ds
+      → RowAs (As E) place (row_of o n q) (head_in (program_words p) e c many) conditions store c.frame cells
   unfolding row_of head_in
-  row_as {held} {cells} outcome taken size bounded conditions fits same =
+  row_as e {cells} outcome taken size bounded conditions same =
       let there : q.state.control.procedure < length p.procedures = frame.there in
-      let long : held ≡ length q.state.memory.cells =
-      sym (length-take-le held cells fits)
-      ∙ sym (length-map (take held cells) cell_of)
-      ∙ ap length same
-      ∙ sym (cells-length E.TermAs h.memory.cells) in
       record {
         outcome = outcome;
         steps = taken;
@@ -272,7 +266,6 @@ module _ {M : Model} (E : Engine M) (p : Program) (ok : WellFormed p) (place : M
             ap (λ (f : ℕ). code_word (program_words p) (3 * f + 3)) h.procedure
             ∙ variables-is p ok q.state.control.procedure there
             ∙ sym frame.size;
-        cell_count = long;
         within =
             record {
               conditions = omega arith;
@@ -284,7 +277,7 @@ module _ {M : Model} (E : Engine M) (p : Program) (ok : WellFormed p) (place : M
         variables_held = λ x inside.
             slot_variable E.TermAs
             (frame.slots x (omega (arith, frame.size, (procedure-fits p ok q.state.control.procedure there).few_variables)));
-        cells_held = cells-listed E.TermAs h.memory.cells (take held cells) same;
+        cells_held = cells-listed E.TermAs h.memory.cells cells same;
       }
     where
       frame : FrameAt E.TermAs p store c.frame q.state.control.procedure q.state.variables

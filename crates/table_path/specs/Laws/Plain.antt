@@ -1,6 +1,6 @@
 -- The plain run on words: with known inputs a path followed to its end has the row of document 01's plain run, and written into a zeroed answer
 -- it is `answer_bytes` of it. Assumes nothing.
-use Rattle.std.specs.Prelude.{ℕ, ◌+◌, ◌<◌, ◌≤◌, Bool, length, get_or, take, drop, replicate}
+use Rattle.std.specs.Prelude.{ℕ, ◌+◌, ◌<◌, ◌≤◌, Bool, length, map, get_or, take, drop, replicate, None, Some}
 use Rattle.std.proofs.Math.Bool.{true, false}
 use Rattle.std.proofs.Math.Path.{◌≡◌, refl, sym, ap}
 use Rattle.std.proofs.Common.{◌∙◌, subst, arith}
@@ -20,7 +20,7 @@ use Rattle.machine_code.specs.WellFormed.{WellFormed}
 use Rattle.machine_terms.specs.Laws.Engine.{Engine, ValueAs, const_as, term_as}
 use Rattle.machine_terms.specs.Laws.Plain.{plain_engine, NoTerm}
 use Rattle.machine_cells.specs.declared.Cell.{Cell}
-use Rattle.machine_cells.specs.Mirror.{held_in}
+use Rattle.machine_cells.specs.Mirror.{cell_of}
 use Rattle.machine_commands.specs.declared.Control.{Control}
 use Rattle.machine_commands.specs.declared.Next.{Next}
 use Rattle.machine_commands.specs.Mirror.{start_in, start_store}
@@ -62,45 +62,44 @@ module _ (inputs : List ℕ) (fits : (i : ℕ) → get_or inputs i 0 < 429496729
 
   -- the row of the command that stopped
   module _ {s : State (plain inputs).Term} {c : Control} {store : List ℕ} {ds : List (Machine.Cell ℕ)} (h : StateAs E p s c store ds)
-      (few : length s.memory.cells ≤ most_cells) (j m : ℕ) (small : m < most_steps) (conditions : List ℕ) (held : ℕ) (cells : List Cell) (inside : held ≤ length cells) where
+      (few : length s.memory.cells ≤ most_cells) (j m : ℕ) (small : m < most_steps) (conditions : List ℕ) (cells : List Cell) where
     came-row : {x : Machine.Next (plain inputs).Term} {r : Next} {store' : List ℕ} {ds' : List (Machine.Cell ℕ)} (n : ℕ)
         → Came E p store ds x r store' ds'
         → n ≤ most_terms
         → goes_in r n ≡ false
-        → held_in held cells ≡ ds'
-        → unfold plain in RowAs (ValueAs NoTerm) no_number (ran_to (run_for inputs p j) m s x) (head_in (program_words p) (end_of r m) c 0 held) conditions store' c.frame cells
+        → map cell_of cells ≡ ds'
+        → unfold plain in RowAs (ValueAs NoTerm) no_number (ran_to (run_for inputs p j) m s x) (head_in (program_words p) (end_of r m) c 0) conditions store' c.frame cells
     unfolding plain plain_engine ran_to ran goes_in
     came-row n (came_on k) low e same = let z : ◌≡◌ {A = Bool} true false = sym (le-leb n most_terms low) ∙ e in let y : ◌≡◌ {A = ℕ} 0 1 = cc in absurd (omega arith)
     came-row n (came_end {e} {r} k) low g same =
-        row_as E p ok no_number (ran m s) h few (end-outcome E m k) (end-steps E m (omega arith) k) refl (omega arith) Held.nothing inside same
+        row_as E p ok no_number (ran m s) h few (end_of r m) (end-outcome E m k) (end-steps E m (omega arith) k) refl (omega arith) Held.nothing same
     came-row n (came_fork {t} k a b) low e same = absurd t
 
   -- the row of where a path stopped
-  at-stop : {j m : ℕ} {w : (plain inputs).World} {s : State (plain inputs).Term} {x : Spot} {f : Stopped} (conditions : List ℕ) (held : ℕ) (cells : List Cell)
+  at-stop : {j m : ℕ} {w : (plain inputs).World} {s : State (plain inputs).Term} {x : Spot} {f : Stopped} (conditions : List ℕ) (cells : List Cell)
       → SpotAs E p w s x
       → length s.memory.cells ≤ most_cells
       → m + j ≤ most_steps
       → Stops E p j m x f
-      → held ≤ length cells
-      → held_in held cells ≡ f.cells
+      → map cell_of cells ≡ f.cells
       → unfold plain in RowAs (ValueAs NoTerm) no_number (run_for inputs p j m s)
-      (head_in (program_words p) (ended_in f.cut f.next f.steps) f.control 0 held) conditions f.store f.control.frame cells
+      (head_in (program_words p) (ended_in f.next f.steps) f.control 0) conditions f.store f.control.frame cells
   unfolding plain plain_engine run_for ran cut_for ended_in cut_at stopped_at reason_code
-  at-stop {m} {s} conditions held cells h few small (used_up e) inside same =
+  at-stop {m} {s} conditions cells h few small (used_up e) same =
       rw e
-      (row_as E p ok no_number (ran m s) h.state few (a_cut {why = steps}) refl refl (omega arith) Held.nothing inside
+      (row_as E p ok no_number (ran m s) h.state few (ended_in None m) (a_cut {why = steps}) refl refl (omega arith) Held.nothing
       (same ∙ ap (λ (f : Stopped). f.cells) e))
-  at-stop {m} {x} conditions held cells h few small (by_command {j} g e) inside same =
+  at-stop {m} {x} conditions cells h few small (by_command {j} g e) same =
       let k = one_as E p ok h in
       rw e
-      (came-row h.state few j m (omega arith) conditions held cells inside (one E p x).count (came E k.next) (omega (arith, k.world.same_count)) g
+      (came-row h.state few j m (omega arith) conditions cells (one E p x).count (came E k.next) (omega (arith, k.world.same_count)) g
       (same ∙ ap (λ (f : Stopped). f.cells) e))
 
-  module _ (budget : ℕ) (small : budget ≤ most_steps) (conditions : List ℕ) {f : Stopped} (held : ℕ) (cells : List Cell)
-      (e : f ≡ follow_in (one_in (program_words p) true inputs) budget 0 (spot (start_in (program_words p)) start_store [] pool count))
-      (inside : held ≤ length cells) (same : held_in held cells ≡ f.cells) where
+  module _ (budget : ℕ) (small : budget ≤ most_steps) (conditions : List ℕ) {f : Stopped} (cells : List Cell)
+      (e : f ≡ follow_in (one_in (program_words p) (Some inputs)) budget 0 (spot (start_in (program_words p)) start_store [] pool count))
+      (same : map cell_of cells ≡ f.cells) where
     pub plain_row : RowAs (ValueAs NoTerm) no_number (plain_run p inputs budget)
-        (head_in (program_words p) (ended_in f.cut f.next f.steps) f.control 0 held) conditions f.store f.control.frame cells
+        (head_in (program_words p) (ended_in f.next f.steps) f.control 0) conditions f.store f.control.frame cells
     unfolding plain plain_engine plain_run start
     plain_row =
         let g =
@@ -109,11 +108,11 @@ module _ (inputs : List ℕ) (fits : (i : ℕ) → get_or inputs i 0 < 429496729
         budget 0 tt (start p) (spot (start_in (program_words p)) start_store [] pool count)
         (omega arith) (record { state = start_as E p ok; world = record { same_pool = refl; same_count = refl } }) in
         rw (run-onward inputs p g.onward)
-        (at-stop conditions held cells g.stands g.still (omega (arith, onward-steps g.onward))
-        (subst (λ (y : Stopped). Stops E p g.left g.taken g.spot y) (sym e) g.stops) inside same)
+        (at-stop conditions cells g.stands g.still (omega (arith, onward-steps g.onward))
+        (subst (λ (y : Stopped). Stops E p g.left g.taken g.spot y) (sym e) g.stops) same)
 
     -- "plain run": what is left in a zeroed answer
     pub plain-answer : (answer : List ℕ) → take 1024 answer ≡ replicate 1024 0
-        → with_row answer (head_in (program_words p) (ended_in f.cut f.next f.steps) f.control 0 held) conditions f.store f.control.frame cells
+        → with_row answer (head_in (program_words p) (ended_in f.next f.steps) f.control 0) conditions f.store f.control.frame cells
         ≡ answer_bytes (plain_run p inputs budget) ++ drop 1024 answer
     plain-answer answer zeros = answer-left (ValueAs NoTerm) plain-kept plain_row answer zeros

@@ -1,13 +1,9 @@
 -- `run::run` meets its contract. Assumes nothing.
-use Rattle.machine_cells.specs.Laws.Served.{no_cells}
+use Rattle.std.proofs.Common.{rules}
 use Rattle.table_plain_run.specs.Steps.{answers}
-use borrow.Author.Rules.{rules}
 use Rattle.table_plain_run.proofs.run.Goals as goal
-
-pub follow-f-requires : goal.follow-f-requires
-follow-f-requires c = no_cells _ (search rules)
 
 pub returns-clause-answered : goal.returns-clause-answered
 returns-clause-answered c h =
-    answers _ _ _ _ c.follow-f.result h c.zero.ensures c.start.ensures c.start_store-store.ensures c.follow-f.ensures.count_after c.follow-f.ensures.tidy.few
-    c.follow-f.ensures.tidy.whole c.head-head.ensures c.write_row.ensures
+    answers _ _ _ _ c.follow-stop.result _ h (c.fill.ensures.after (λ y e. search rules)) c.start.ensures c.start_store-store.ensures c.new-memory.ensures c.follow-stop.ensures c.cells.ensures.all
+    c.head.ensures c.write.ensures

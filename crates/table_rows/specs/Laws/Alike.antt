@@ -1,9 +1,10 @@
 -- Words that have the same bytes: the things of a list one by one, and a frame's. Assumes nothing.
-use Rattle.std.specs.Prelude.{ℕ, zero, suc, ◌+◌, ◌<◌, ◌≤◌, ◌≡◌, refl, List, [], ◌∷◌, length, get_or, take, drop}
-use Rattle.std.proofs.Common.{arith, ap, length-take, drop-cons}
+use Rattle.std.specs.Prelude.{ℕ, suc, ◌+◌, ◌<◌, ◌≤◌, ◌≡◌, refl, List, [], ◌∷◌, length, get_or, take}
+use Rattle.std.proofs.Common.{arith, ap, length-take, take_all}
 use Rattle.gil.specs.Names.{gather}
 use Rattle.lent_words.specs.Laws.Rooms.{Alike, alike_same, alike-append}
 use Rattle.table_rows.specs.Mirror.{words_from}
+use Rattle.table_rows.specs.Steps.{from_list}
 use Rattle.table_rows.specs.Laws.Held.{Listed, nothing, more}
 
 -- words of things that are alike one by one
@@ -14,19 +15,15 @@ unfolding gather
 listed-words f g alike nothing = alike_same refl
 listed-words f g alike (more {a} {w} p q) = alike-append (alike a w p) (listed-words f g alike q)
 
-listed-long : {A W : Type 0} {As : A → W → Type 0} {l : List A} {ws : List W} → Listed As l ws → length ws ≡ length l
+pub listed-long : {A W : Type 0} {As : A → W → Type 0} {l : List A} {ws : List W} → Listed As l ws → length ws ≡ length l
 listed-long nothing = refl
 listed-long (more p q) = ap suc (listed-long q)
 
-from_list :
-    {W : Type 0} (g : W → List ℕ) (w₀ : W) (ws : List W) (k n : ℕ) → k + n ≤ length ws
-    → words_from (λ i. g (get_or ws i w₀)) k n ≡ gather g (take n (drop k ws))
-unfolding words_from gather
-from_list g w₀ ws k zero h = refl
-from_list g w₀ ws k (suc n) h =
-    let first : k < length ws = omega arith in
-    let rest : suc k + n ≤ length ws = omega arith in
-    rw (drop-cons ws k w₀ first, from_list g w₀ ws (suc k) n rest)
+-- all of a list, as many as there is room for
+pub listed-all :
+    {A W : Type 0} {As : A → W → Type 0} {l : List A} (f : A → List ℕ) (g : W → List ℕ) (ws : List W) (n : ℕ)
+    → ((a : A) (w : W) → As a w → Alike (g w) (f a)) → length l ≤ n → Listed As l ws → Alike (gather g (take n ws)) (gather f l)
+listed-all f g ws n alike h p = rw (take_all n ws (omega (arith, listed-long p))) (listed-words f g alike p)
 
 -- those that stand at the front of a list, and those of a frame
 pub listed-from :

@@ -3,6 +3,7 @@
 use Rattle.std.specs.Prelude.{ℕ, ◌+◌, ◌*◌, ◌/◌, ◌%◌, ◌<◌, ◌≡◌, List, [], ◌∷◌, length, get_or, take}
 use Rattle.std.proofs.Math.Option.{Option, none, some}
 use Rattle.gil.specs.Numbers.{most_frames, as_returned, as_failed, as_vanished, as_error, as_cut}
+use Rattle.gil.specs.Codes.{outcome_number}
 use Rattle.gil.specs.Names.{gather}
 use Rattle.gil.specs.Values.{Constant, Value, const, term}
 use Rattle.gil.specs.Machine as machine
@@ -58,18 +59,17 @@ module _ {T : Type 0} (As : Value T → ℕ → Type 0) where
     an_error : {n : ℕ} → OutcomeAs (ended (error n)) as_error 0 n
     a_cut : {why : Reason} → OutcomeAs (cut why) as_cut 0 (reason_code why)
 
-  -- "A finished row": its head, and the first of the conditions, variables and cells, as many as the head counts
+  -- "A finished row": its head, the first of the conditions and variables, as many as the head counts, and the cells
   pub record RowAs (place : T → ℕ) (r : Row T) (h : Head) (conditions store : List ℕ) (frame : ℕ) (cells : List Cell) : Type 0 where
-    pub outcome : OutcomeAs r.outcome h.outcome h.tag h.word
+    pub outcome : OutcomeAs r.outcome (outcome_number h.outcome) h.tag h.word
     pub steps : h.steps ≡ r.steps
     pub procedure : h.procedure ≡ r.procedure
     pub command : h.command ≡ r.command
     pub inputs : h.inputs ≡ r.inputs
     pub condition_count : h.conditions ≡ length r.conditions
     pub variable_count : h.variables ≡ length r.variables
-    pub cell_count : h.cells ≡ length r.cells
     pub within : Within r
     pub frame_fits : frame < most_frames
     pub conditions_held : Listed (ConditionAs place) r.conditions (take h.conditions conditions)
     pub variables_held : FrameAs r.variables store frame
-    pub cells_held : Listed CellAs r.cells (take h.cells cells)
+    pub cells_held : Listed CellAs r.cells cells

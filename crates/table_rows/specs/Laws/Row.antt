@@ -1,5 +1,5 @@
 -- What the row writer leaves is document 01's row: for words that hold a row (`RowAs`), over zeros, exactly Layout's bytes of it. Assumes nothing.
-use Rattle.std.specs.Prelude.{ℕ, ◌+◌, ◌*◌, ◌/◌, ◌%◌, ◌<◌, ◌≡◌, Bool, true, false, get_or, take, drop, replicate}
+use Rattle.std.specs.Prelude.{ℕ, ◌+◌, ◌*◌, ◌/◌, ◌%◌, ◌<◌, ◌≡◌, Bool, true, false, get_or, take, drop, replicate, min}
 use native.Mathlib.Omega.{arith}
 use Rattle.std.proofs.Math.Nat.{zero-add}
 use Rattle.std.proofs.Math.Path.{refl, sym, ap}
@@ -7,6 +7,7 @@ use Rattle.std.proofs.Common.{◌∙◌, take-append-drop, lt-ltb}
 use mathlib.Core.List.{List, [], ◌∷◌, ◌++◌}
 use Rattle.std.proofs.Math.Option.{Option, none, some}
 use Rattle.std.proofs.Math.ListN.{length}
+use Rattle.gil.specs.Codes.{outcome_number}
 use Rattle.gil.specs.Names.{gather}
 use Rattle.gil.specs.Values.{Constant, Value}
 use Rattle.gil.specs.Machine as machine
@@ -18,14 +19,14 @@ use Rattle.machine_code.specs.Code.{frame_words}
 use Rattle.machine_values.specs.Laws.{ConstAs, a_number, a_truth, a_location, low-number, low-location}
 use Rattle.machine_cells.specs.declared.Cell.{Cell}
 use Rattle.table_rows.specs.declared.Head.{Head}
-use Rattle.table_rows.specs.Mirror.{head_of, condition_of, value_of, cell_of, no_cell, variable_in, conditions_held, variables_held, cells_held, held_parts, with_row}
+use Rattle.table_rows.specs.Mirror.{head_of, condition_of, value_of, cell_of, variable_in, conditions_held, variables_held, cells_held, held_parts, with_row}
 use Rattle.lent_words.specs.Mirror.{at_most}
 use Rattle.lent_words.specs.Laws.Words.{all_of}
 use Rattle.lent_words.specs.Laws.Rooms.{zeros, Alike, alike_same, alike-append}
 use Rattle.lent_words.specs.Laws.Parts as parts
 use Rattle.lent_words.specs.Laws.Parts.{sizes, parts-over-zeros, AlikeParts, parts-alike, alike-fit}
 use Rattle.lent_words.specs.Laws.Row.{value_two, row_fits}
-use Rattle.table_rows.specs.Laws.Alike.{listed-from, frame-words}
+use Rattle.table_rows.specs.Laws.Alike.{listed-long, listed-all, listed-from, frame-words}
 use Rattle.table_rows.specs.Laws.Held.{ValueAs, a_const, a_term, Keeps, ConditionAs, VariableAs, unbound, bound, CellAs, OutcomeAs, a_return, a_fail, a_vanish, an_error, a_cut, RowAs}
 
 -- a value by its tag and its place has the words of it
@@ -95,11 +96,12 @@ module _ {T : Type 0} (tag place : T → ℕ) where
           rw n
           (listed-from (condition_words tag place) condition_of 0 conditions h.conditions condition-alike p.condition_count p.conditions_held)
 
-      cells-alike : Alike (cells_held h.cells cells) (gather (cell_words tag place) r.cells)
+      cells-alike : Alike (cells_held cells) (gather (cell_words tag place) r.cells)
       unfolding cells_held
-      cells-alike =
-          let n : at_most most_cells h.cells ≡ h.cells = all_of most_cells h.cells (omega (arith, p.cell_count, p.within.cells)) in
-          rw n (listed-from (cell_words tag place) cell_of no_cell cells h.cells cell-alike p.cell_count p.cells_held)
+      cells-alike = listed-all (cell_words tag place) cell_of cells most_cells cell-alike p.within.cells p.cells_held
+
+      cell_count : min (length cells) most_cells ≡ length r.cells
+      cell_count = omega (arith, listed-long p.cells_held, p.within.cells)
 
       variables-alike : Alike (variables_held h.variables store frame) (gather (variable_words tag place) r.variables)
       unfolding variables_held
@@ -111,11 +113,11 @@ module _ {T : Type 0} (tag place : T → ℕ) where
           each : (x : ℕ) → x < length r.variables → Alike (variable_in store frame (0 + x)) (variable_words tag place (get_or r.variables x none))
           each x l = rw zero-add (variable_alike (get_or r.variables x none) (get_or store (frame_words * frame + x) 0) (p.variables_held x l))
 
-      head-alike : Alike (head_of h) (head_words tag place r)
+      head-alike : Alike (head_of h cells) (head_words tag place r)
       unfolding head_words head_of
       head-alike =
-          alike-append (outcome-alike r.outcome h.outcome h.tag h.word p.outcome)
-          (alike_same (rw (p.steps, p.procedure, p.command, p.inputs, p.condition_count, p.variable_count, p.cell_count)))
+          alike-append (outcome-alike r.outcome (outcome_number h.outcome) h.tag h.word p.outcome)
+          (alike_same (rw (p.steps, p.procedure, p.command, p.inputs, p.condition_count, p.variable_count, cell_count)))
 
       -- the parts written are the row's own, one by one
       held-alike : AlikeParts (held_parts h conditions store frame cells) (row_parts tag place r)
