@@ -1,6 +1,6 @@
 -- What a token's kind says of the readers of the definitions: one law for each form and each answer. Assumes nothing.
 use Prim.Native.Nat.{ℕ, suc, ◌≤◌, ◌<◌}
-use Rattle.std.specs.Prelude.{◌≡◌, Bool, true, false, List, eqb}
+use Rattle.std.specs.Prelude.{◌≡◌, Bool, true, false, List, eqb, Option, None, Some}
 use Rattle.std.proofs.Math.Path.{refl, ap, subst}
 use Rattle.std.proofs.Common.{sym, ◌∙◌, arith}
 use Rattle.std.proofs.Math.Decide.{dec_le}
@@ -8,14 +8,15 @@ use borrow.Author.Tests.{eq-eqb, ne_eqb}
 use Rattle.std.proofs.Math.ListN.{length}
 use Rattle.gil.specs.Text.{Key, k_ifgoto, k_return, k_fail, k_vanish, k_true, k_false, k_not, k_and, k_or, k_lookup, k_mutate, k_dispose, Token, Word, lexeme}
 use Rattle.gil.specs.Tree.{Op, plus, minus, equal, less, and, or, Name}
-use Rattle.gil.specs.Reading.{Read, Reader, after, ◌>>=◌, done, nothing, token, is_mark, is_ended, is_becomes, so, the_mark, the_becomes, name_of, as_word, the_name, number_of, the_number, property_of, the_property, op_mark, op_key, op_word, op_of, the_op}
-use Rattle.machine_code.specs.Code as Code
+use Rattle.gil.specs.Reading.{Read, Reader, after, ◌>>=◌, done, nothing, token, is_mark, is_ended, is_becomes, so, the_mark, the_becomes, name_of, as_word, the_name, number_of, the_number, property_of, the_property, op_mark, op_key, op_word, the_op}
+use Rattle.machine_code.specs.declared.kinds.Operator.{Operator}
+use Rattle.machine_code.specs.Kinds.{op_of}
 use Rattle.gil.specs.Numbers.{most_characters}
 use Rattle.text_words.specs.Mirror.Kinds.{name_token, number_token, property_token, becomes_token, ended_token, ifgoto_token, and_token, or_token, dispose_token}
 use Rattle.text_words.specs.Mirror.Words.{key_kind, Stands, a_name, a_number, a_u_site, an_i_site, a_fault, a_key}
 use Rattle.text_tokens.specs.Mirror.Seen.{name_at, Seen, a_word, a_property, becoming, a_mark, the_end, Found}
 use Rattle.text_tokens.specs.Mirror.Marks.{Marked}
-use Rattle.text_forms.specs.Mirror.Goes.{Goes, fails, goes, anything}
+use Rattle.text_forms.specs.Mirror.Goes.{Goes, fails, goes, Passes, Gives, anything}
 use Rattle.text_forms.specs.Laws.Goes.{weaken}
 
 -- the kinds of words and of the other tokens do not meet
@@ -165,8 +166,8 @@ op_low : (k : ℕ) → k < 256 → op_by_key k ≡ nothing
 unfolding op_by_key
 op_low k h = rw (ne_eqb k and_token (λ e. omega arith), op_by_key) (rw (ne_eqb k or_token (λ e. omega arith)))
 
-pub op_by_lem : {s : List ℕ} {t : Token} {k v : ℕ} → Seen s t k v → op_of t ≡ op_by k
-unfolding op_of op_by op_by_key op_mark
+pub op_by_lem : {s : List ℕ} {t : Token} {k v : ℕ} → Seen s t k v → Rattle.gil.specs.Reading.op_of t ≡ op_by k
+unfolding Rattle.gil.specs.Reading.op_of op_by op_by_key op_mark
 op_by_lem (a_word p st) = op_word_lem st
 op_by_lem (a_property f) = refl
 op_by_lem becoming = refl
@@ -190,78 +191,78 @@ module _ {s : List ℕ} {at k v n : ℕ} (f : Found s at (lexeme s at) k v n) wh
   unfolding token ◌>>=◌ after
   token-step g = refl
 
-  pub reads : {A : Type 0} {Q : A → Type 0} (g : Token → Reader A) (a : A) → (k ≡ ended_token → ⊥) → g (lexeme s at).token ≡ done a → Q a → Goes s (suc at) Q ((token >>= g) s at) n
+  pub reads : {A B : Type 0} {next : B → ℕ} {Q : B → A → Type 0} (g : Token → Reader A) (a : A) (b : B) → next b ≡ n → (k ≡ ended_token → ⊥) → g (lexeme s at).token ≡ done a → Q b a → Goes s (suc at) next Q ((token >>= g) s at) (Some b)
   unfolding done
-  reads {A} {Q} g a h e q =
-      subst (λ (r : Read A). Goes s (suc at) Q r n) (sym (token-step g ∙ ap (λ (p : Reader A). p s (lexeme s at).next) e))
-      (goes f.next (subst (λ (m : ℕ). suc at ≤ m) f.next (f.more h)) (subst (λ (m : ℕ). m ≤ length s) f.next (inside h)) q)
+  reads {A} {B} {next} {Q} g a b z h e q =
+      subst (λ (r : Read A). Goes s (suc at) next Q r (Some b)) (sym (token-step g ∙ ap (λ (p : Reader A). p s (lexeme s at).next) e))
+      (goes (z ∙ f.next) (subst (λ (m : ℕ). suc at ≤ m) f.next (f.more h)) (subst (λ (m : ℕ). m ≤ length s) f.next (inside h)) q)
 
-  pub faults : {A : Type 0} {Q : A → Type 0} {m : ℕ} (g : Token → Reader A) → m ≡ suc (length s) → g (lexeme s at).token ≡ nothing → Goes s (suc at) Q ((token >>= g) s at) m
+  pub faults : {A B : Type 0} {low : ℕ} {next : B → ℕ} {Q : B → A → Type 0} (g : Token → Reader A) → g (lexeme s at).token ≡ nothing → Goes s low next Q ((token >>= g) s at) None
   unfolding nothing
-  faults {A} {Q} {m} g h e = subst (λ (r : Read A). Goes s (suc at) Q r m) (sym (token-step g ∙ ap (λ (p : Reader A). p s (lexeme s at).next) e)) (fails h)
+  faults {A} {low = low} {next} {Q} g e = subst (λ (r : Read A). Goes s low next Q r None) (sym (token-step g ∙ ap (λ (p : Reader A). p s (lexeme s at).next) e)) fails
 
   -- what follows the token is read by `p`
-  pub carries : {A : Type 0} {Q : A → Type 0} {m : ℕ} (g : Token → Reader A) (p : Reader A) → (k ≡ ended_token → ⊥) → g (lexeme s at).token ≡ p → Goes s (suc n) Q (p s n) m → Goes s (suc at) Q ((token >>= g) s at) m
-  carries {A} {Q} {m} g p h e q =
-      subst (λ (r : Read A). Goes s (suc at) Q r m) (sym (token-step g ∙ ap (λ (x : Reader A). x s (lexeme s at).next) e ∙ ap (λ (i : ℕ). p s i) (sym f.next)))
+  pub carries : {A B : Type 0} {next : B → ℕ} {Q : B → A → Type 0} {o : Option B} (g : Token → Reader A) (p : Reader A) → (k ≡ ended_token → ⊥) → g (lexeme s at).token ≡ p → Goes s (suc n) next Q (p s n) o → Goes s (suc at) next Q ((token >>= g) s at) o
+  carries {A} {next = next} {Q} {o} g p h e q =
+      subst (λ (r : Read A). Goes s (suc at) next Q r o) (sym (token-step g ∙ ap (λ (x : Reader A). x s (lexeme s at).next) e ∙ ap (λ (i : ℕ). p s i) (sym f.next)))
       (weaken (omega (arith, f.more h)) q)
 
-  pub mark-goes : (b : ℕ) → b < 256 → k ≡ b → Goes s (suc at) anything (the_mark b s at) n
+  pub mark-goes : (b : ℕ) → b < 256 → k ≡ b → Passes s (suc at) anything (the_mark b s at) (Some n)
   unfolding the_mark so
-  mark-goes b h e = reads (λ t. so (is_mark b t)) tt (λ z. omega arith) (ap so (mark-is b f.seen h ∙ eq-eqb b k (sym e))) tt
+  mark-goes b h e = reads (λ t. so (is_mark b t)) tt n refl (λ z. omega arith) (ap so (mark-is b f.seen h ∙ eq-eqb b k (sym e))) tt
 
-  pub becomes-goes : k ≡ becomes_token → Goes s (suc at) anything (the_becomes s at) n
+  pub becomes-goes : k ≡ becomes_token → Passes s (suc at) anything (the_becomes s at) (Some n)
   unfolding the_becomes so
-  becomes-goes e = reads (λ t. so (is_becomes t)) tt (λ z. omega arith) (ap so (becomes-is f.seen ∙ eq-eqb k becomes_token e)) tt
+  becomes-goes e = reads (λ t. so (is_becomes t)) tt n refl (λ z. omega arith) (ap so (becomes-is f.seen ∙ eq-eqb k becomes_token e)) tt
 
-  pub becomes-fails : {m : ℕ} → (k ≡ becomes_token → ⊥) → m ≡ suc (length s) → Goes s (suc at) anything (the_becomes s at) m
+  pub becomes-fails : (k ≡ becomes_token → ⊥) → Passes s (suc at) anything (the_becomes s at) None
   unfolding the_becomes so
-  becomes-fails e z = faults (λ t. so (is_becomes t)) z (ap so (becomes-is f.seen ∙ ne_eqb k becomes_token e))
+  becomes-fails e = faults (λ t. so (is_becomes t)) (ap so (becomes-is f.seen ∙ ne_eqb k becomes_token e))
 
-  pub name-goes : k ≡ name_token → Goes s (suc at) (λ w. name_at s v ≡ w) (the_name s at) n
+  pub name-goes : k ≡ name_token → Gives s (suc at) (λ (p : ℕ) (w : Name). name_at s p ≡ w) (the_name s at) (Some (v, n))
   unfolding the_name name_by
-  name-goes e = reads (λ t. name_of (as_word t)) (name_at s v) (λ z. omega arith) (name_by_lem f.seen ∙ rw e) refl
+  name-goes e = reads (λ t. name_of (as_word t)) (name_at s v) (v, n) refl (λ z. omega arith) (name_by_lem f.seen ∙ rw e) refl
 
-  pub name-fails : {m : ℕ} (u : ℕ) → (k ≡ name_token → ⊥) → m ≡ suc (length s) → Goes s (suc at) (λ w. name_at s u ≡ w) (the_name s at) m
+  pub name-fails : (k ≡ name_token → ⊥) → Gives s (suc at) (λ (p : ℕ) (w : Name). name_at s p ≡ w) (the_name s at) None
   unfolding the_name name_by
-  name-fails u e z = faults (λ t. name_of (as_word t)) z (name_by_lem f.seen ∙ rw (ne_eqb k name_token e, name_by))
+  name-fails e = faults (λ t. name_of (as_word t)) (name_by_lem f.seen ∙ rw (ne_eqb k name_token e, name_by))
 
-  pub number-goes : k ≡ number_token → Goes s (suc at) (λ a. v ≡ a) (the_number s at) n
+  pub number-goes : k ≡ number_token → Gives s (suc at) (λ (m a : ℕ). m ≡ a) (the_number s at) (Some (v, n))
   unfolding the_number number_by
-  number-goes e = reads (λ t. number_of (as_word t)) v (λ z. omega arith) (number_by_lem f.seen ∙ rw e) refl
+  number-goes e = reads (λ t. number_of (as_word t)) v (v, n) refl (λ z. omega arith) (number_by_lem f.seen ∙ rw e) refl
 
-  pub number-fails : {m u : ℕ} → (k ≡ number_token → ⊥) → m ≡ suc (length s) → Goes s (suc at) (λ a. u ≡ a) (the_number s at) m
+  pub number-fails : (k ≡ number_token → ⊥) → Gives s (suc at) (λ (m a : ℕ). m ≡ a) (the_number s at) None
   unfolding the_number number_by
-  number-fails e z = faults (λ t. number_of (as_word t)) z (number_by_lem f.seen ∙ rw (ne_eqb k number_token e, number_by))
+  number-fails e = faults (λ t. number_of (as_word t)) (number_by_lem f.seen ∙ rw (ne_eqb k number_token e, number_by))
 
-  pub property-goes : k ≡ property_token → Goes s (suc at) (λ w. name_at s v ≡ w) (the_property s at) n
+  pub property-goes : k ≡ property_token → Gives s (suc at) (λ (p : ℕ) (w : Name). name_at s p ≡ w) (the_property s at) (Some (v, n))
   unfolding the_property property_by
-  property-goes e = reads property_of (name_at s v) (λ z. omega arith) (property-by f.seen ∙ rw e) refl
+  property-goes e = reads property_of (name_at s v) (v, n) refl (λ z. omega arith) (property-by f.seen ∙ rw e) refl
 
-  pub property-fails : {m : ℕ} (u : ℕ) → (k ≡ property_token → ⊥) → m ≡ suc (length s) → Goes s (suc at) (λ w. name_at s u ≡ w) (the_property s at) m
+  pub property-fails : (k ≡ property_token → ⊥) → Gives s (suc at) (λ (p : ℕ) (w : Name). name_at s p ≡ w) (the_property s at) None
   unfolding the_property property_by
-  property-fails u e z = faults property_of z (property-by f.seen ∙ rw (ne_eqb k property_token e, property_by))
+  property-fails e = faults property_of (property-by f.seen ∙ rw (ne_eqb k property_token e, property_by))
 
   -- an operator, by the kind that it has
-  pub op_goes : {u : ℕ} (o : Op) (j : ℕ) → k ≡ j → op_by j ≡ done o → u ≡ Code.op_word o → (j ≡ ended_token → ⊥) → Goes s (suc at) (λ p. u ≡ Code.op_word p) (the_op s at) n
+  pub op_goes : (o : Operator) (j : ℕ) → k ≡ j → op_by j ≡ done (op_of o) → (j ≡ ended_token → ⊥) → Gives s (suc at) (λ (u : Operator) (p : Op). op_of u ≡ p) (the_op s at) (Some (o, n))
   unfolding the_op
-  op_goes o j e d q h = reads op_of o (λ z. h (sym e ∙ z)) (op_by_lem f.seen ∙ ap op_by e ∙ d) q
+  op_goes o j e d h = reads Rattle.gil.specs.Reading.op_of (op_of o) (o, n) refl (λ z. h (sym e ∙ z)) (op_by_lem f.seen ∙ ap op_by e ∙ d) refl
 
-  pub op_fails : {m u : ℕ} → (k ≡ 43 → ⊥) → (k ≡ 45 → ⊥) → (k ≡ 61 → ⊥) → (k ≡ 60 → ⊥) → (k ≡ and_token → ⊥) → (k ≡ or_token → ⊥) → m ≡ suc (length s) → Goes s (suc at) (λ p. u ≡ Code.op_word p) (the_op s at) m
+  pub op_fails : (k ≡ 43 → ⊥) → (k ≡ 45 → ⊥) → (k ≡ 61 → ⊥) → (k ≡ 60 → ⊥) → (k ≡ and_token → ⊥) → (k ≡ or_token → ⊥) → Gives s (suc at) (λ (u : Operator) (p : Op). op_of u ≡ p) (the_op s at) None
   unfolding the_op
-  op_fails a b c d g h z = faults op_of z (op_by_lem f.seen ∙ none)
+  op_fails a b c d g h = faults Rattle.gil.specs.Reading.op_of (op_by_lem f.seen ∙ none)
     where
       none : op_by k ≡ nothing
       none = unfold op_by op_by_key in rw (ne_eqb k 43 a, op_by) (rw (ne_eqb k 45 b) (rw (ne_eqb k 61 c) (rw (ne_eqb k 60 d) (rw (ne_eqb k and_token g, op_by_key) (rw (ne_eqb k or_token h))))))
 
 -- a mark by its byte
 module _ {s : List ℕ} {at b r : ℕ} (m : Marked s at b r) where
-  pub mark-read : b < 256 → (r ≡ 0 → ⊥) → Goes s (suc at) anything (the_mark b s at) r
+  pub mark-read : b < 256 → (r ≡ 0 → ⊥) → Passes s (suc at) anything (the_mark b s at) (Some r)
   mark-read h n = mark-goes (m.found n) b h refl
 
   pub mark-there : b < 256 → (r ≡ 0 → ⊥) → is_mark b (lexeme s at).token ≡ true
   mark-there h n = mark-is b (m.found n).seen h ∙ eq-eqb b b refl
 
-  pub mark_missed : {n : ℕ} → r ≡ 0 → n ≡ suc (length s) → Goes s (suc at) anything (the_mark b s at) n
+  pub mark_missed : r ≡ 0 → Passes s (suc at) anything (the_mark b s at) None
   unfolding the_mark so token ◌>>=◌ after nothing
-  mark_missed {n} e z = subst (λ (x : Read (Unit {0})). Goes s (suc at) anything x n) (sym (ap (λ (t : Bool). so t s (lexeme s at).next) (m.other e))) (fails z)
+  mark_missed e = subst (λ (x : Read (Unit {0})). Passes s (suc at) anything x None) (sym (ap (λ (t : Bool). so t s (lexeme s at).next) (m.other e))) fails

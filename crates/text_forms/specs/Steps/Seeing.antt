@@ -1,5 +1,5 @@
 -- An expression by the kind of its first token; the forms that are one token. Assumes nothing.
-use Rattle.std.specs.Prelude.{ℕ, suc, ◌<◌, ◌≡◌, refl, Bool, true, false, List, eqb}
+use Rattle.std.specs.Prelude.{ℕ, suc, ◌<◌, ◌≡◌, refl, Bool, true, false, List, eqb, Option, None, Some}
 use Rattle.std.proofs.Common.{sym, ap, ◌∙◌, subst, arith, ne_eqb}
 use Rattle.gil.specs.Text.{Key, k_ifgoto, k_return, k_fail, k_vanish, k_true, k_false, k_not, k_and, k_or, k_lookup, k_mutate, k_dispose, Token, Word, lexeme}
 use Rattle.gil.specs.Tree.{Expr, num, bool, var, Name}
@@ -7,7 +7,7 @@ use Rattle.gil.specs.Reading.{Reader, done, nothing, the_becomes, the_name, the_
 use Rattle.text_words.specs.Mirror.Kinds.{name_token, number_token, property_token, becomes_token, true_token, false_token, not_token}
 use Rattle.text_words.specs.Mirror.Words.{key_kind, Stands, a_name, a_number, a_u_site, an_i_site, a_fault, a_key}
 use Rattle.text_tokens.specs.Mirror.Seen.{name_at, Seen, a_word, a_property, becoming, a_mark, the_end, Found}
-use Rattle.text_forms.specs.Mirror.Goes.{Goes, anything}
+use Rattle.text_forms.specs.Mirror.Goes.{Passes, Gives, anything}
 use Rattle.text_forms.specs.Mirror.Seeing.{OfKind, found, other}
 use Rattle.text_forms.specs.Laws.Seeing.{Placed, becomes-goes, becomes-fails, name-goes, name-fails, number-goes, number-fails, property-goes, property-fails}
 
@@ -68,22 +68,24 @@ expr-by {s} {k = k} {v = v} e (a_mark l) = at (eqb k 40) ∙ sym low
     low = rw (ne_eqb k name_token (λ z. omega arith), expr_by) (rw (ne_eqb k number_token (λ z. omega arith)))
 expr-by e the_end = refl
 
-pub of_kind : {s : List ℕ} {at k v n kind : ℕ} → Found s at (lexeme s at) k v n → k ≡ kind → OfKind s at kind v n
-of_kind {s} {at} {v = v} {n = n} f e = subst (λ (i : ℕ). OfKind s at i v n) e (found f)
+pub of_kind : {s : List ℕ} {at k v n kind : ℕ} → Found s at (lexeme s at) k v n → k ≡ kind → OfKind s at kind (Some (v, n))
+of_kind {s} {at} {v = v} {n = n} f e = subst (λ (i : ℕ). OfKind s at i (Some (v, n))) e (found f)
 
-module _ {s : List ℕ} {at v n : ℕ} where
-  pub becomes-reads : OfKind s at becomes_token v n → Goes s (suc at) anything (the_becomes s at) n
+module _ {s : List ℕ} {at : ℕ} where
+  pub becomes-reads : {v n : ℕ} → OfKind s at becomes_token (Some (v, n)) → Passes s (suc at) anything (the_becomes s at) (Some n)
   becomes-reads (found f) = becomes-goes f refl
-  becomes-reads (other f h z) = becomes-fails f h z
 
-  pub name-reads : OfKind s at name_token v n → Goes s (suc at) (λ w. name_at s v ≡ w) (the_name s at) n
+  pub becomes-stops : OfKind s at becomes_token None → Passes s (suc at) anything (the_becomes s at) None
+  becomes-stops (other f h) = becomes-fails f h
+
+  pub name-reads : {o : Option (ℕ × ℕ)} → OfKind s at name_token o → Gives s (suc at) (λ (p : ℕ) (w : Name). name_at s p ≡ w) (the_name s at) o
   name-reads (found f) = name-goes f refl
-  name-reads (other f h z) = name-fails f v h z
+  name-reads (other f h) = name-fails f h
 
-  pub number-reads : OfKind s at number_token v n → Goes s (suc at) (λ a. v ≡ a) (the_number s at) n
+  pub number-reads : {o : Option (ℕ × ℕ)} → OfKind s at number_token o → Gives s (suc at) (λ (m a : ℕ). m ≡ a) (the_number s at) o
   number-reads (found f) = number-goes f refl
-  number-reads (other f h z) = number-fails f h z
+  number-reads (other f h) = number-fails f h
 
-  pub property-reads : OfKind s at property_token v n → Goes s (suc at) (λ w. name_at s v ≡ w) (the_property s at) n
+  pub property-reads : {o : Option (ℕ × ℕ)} → OfKind s at property_token o → Gives s (suc at) (λ (p : ℕ) (w : Name). name_at s p ≡ w) (the_property s at) o
   property-reads (found f) = property-goes f refl
-  property-reads (other f h z) = property-fails f v h z
+  property-reads (other f h) = property-fails f h

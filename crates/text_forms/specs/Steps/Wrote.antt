@@ -1,6 +1,6 @@
 -- The words of each form of an expression. Assumes nothing.
 use Rattle.std.specs.Prelude.{ℕ, ◌+◌, ◌-◌, ◌≤◌, ◌≡◌, Bool, List, ◌∷◌, ◌++◌, set}
-use Rattle.std.proofs.Math.Path.{refl, sym, ap}
+use Rattle.std.proofs.Math.Path.{refl, sym, ap, subst}
 use Rattle.std.proofs.Common.{◌∙◌, append_assoc, add-one}
 use native.Mathlib.Omega.{arith}
 use Rattle.std.proofs.Math.ListN.{length}
@@ -10,6 +10,8 @@ use Rattle.gil.specs.Names.{expr_vars, rename_expr, with_names}
 use Rattle.machine_code.specs.Code as Code
 use Rattle.machine_code.specs.Code.{node, expr_words, code_words, not_node, truth_node}
 use Rattle.machine_code.proofs.Accepted.Sizes.{expr_size}
+use Rattle.machine_code.specs.declared.kinds.Operator.{Operator}
+use Rattle.machine_code.specs.Kinds.{op_of, operator_number, operator-word}
 use Rattle.gil.specs.Layout.{bit}
 use Rattle.gil.specs.Numbers.{most_variables}
 use Rattle.text_names.specs.Mirror.Tables.{Kept, Grows}
@@ -134,3 +136,8 @@ module _ {s t t₁ t' code code₁ code₂ code' : List ℕ} {out₀ out₁ out'
     where
       together : Grows s most_variables t t' (expr_vars (bin o a b))
       together = unfold expr_vars in grows_then wa.vars wb.vars
+
+-- the same as the code has it: a word is left for the node at `at`, and stored between the operands
+pub wrote_op : {s t t₁ t' code code₀ code₁ code₂ code' : List ℕ} {out out₀ out₁ out₂ out' at : ℕ} {a b : Expr Name} {o : Op} (x : Operator) → code₀ ≡ code → (out₀ ≡ up_from out) × (at ≡ out) → Wrote s t t₁ code₀ code₁ out₀ out₁ a → op_of x ≡ o → code₂ ≡ put code₁ at (node (operator_number x) (out₁ - (at + 1))) → out₂ ≡ out₁ → Wrote s t₁ t' code₂ code' out₂ out' b → Wrote s t t' code code' out out' (bin o a b)
+wrote_op {s} {t} {t₁} {t'} {code₁ = code₁} {code₂} {code'} {out = out} {out₀} {out₁} {out' = out'} {a = a} {b} {o} x k (u, z) wa q c y wb =
+    wrote_bin out o u (subst (λ (ws : List ℕ). Wrote s t t₁ ws code₁ out₀ out₁ a) k wa) (sym (operator-word x) ∙ ap Code.op_word q) (c ∙ ap (λ (i : ℕ). put code₁ i (node (operator_number x) (out₁ - (i + 1)))) z) (λ h. refl) (subst (λ (i : ℕ). Wrote s t₁ t' code₂ code' i out' b) y wb)

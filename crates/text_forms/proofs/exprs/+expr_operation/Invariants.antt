@@ -1,5 +1,5 @@
 -- `exprs::expr` and `operation`, which call each other: the depth left falls.
-use Prim.Native.Nat.{◌*◌, ◌+◌}
+use Rattle.std.specs.Prelude.{◌*◌, ◌+◌}
 use Rattle.text_forms.proofs.exprs.+expr_operation.Given as goal
 
 abbrev pub decreases-expr : goal.decreases-expr

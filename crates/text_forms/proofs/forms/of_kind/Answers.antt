@@ -7,4 +7,4 @@ pub returns-then-t-kind : goal.returns-then-t-kind
 returns-then-t-kind c = of_kind c.token-t.ensures c.if-t-kind.true
 
 pub returns : goal.returns
-returns c = other c.token-t.ensures c.if-t-kind.false c.stop.ensures
+returns c = other c.token-t.ensures c.if-t-kind.false
