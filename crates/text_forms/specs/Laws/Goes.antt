@@ -29,6 +29,15 @@ was_read {s} {low} {r = r} (goes {a} {m = m} e l w q) =
       within = subst (λ (n : ℕ). n ≤ length s) (sym e) w;
     }
 
+-- what a row comes to, past what was read
+pub lost : {s : List ℕ} {low : ℕ} {A B C : Type 0} {next : B → ℕ} {Q : B → A → Type 0} {r : Read A} (f : A → Reader C) → Goes s low next Q r None → after s r f ≡ faulty
+unfolding after
+lost f fails = refl
+
+pub past : {s : List ℕ} {low n : ℕ} {A C : Type 0} {Q : A → Type 0} {r : Read A} (f : A → Reader C) (i : Item s low Q r n) → after s r f ≡ f i.item s n
+unfolding after
+past {s} {A = A} f i = ap (λ (x : Read A). after s x f) i.is
+
 -- readers in a row: a fault of the first is one of the row
 pub stops : {s : List ℕ} {low low' : ℕ} {A B C D : Type 0} {next : B → ℕ} {Q : B → A → Type 0} {next' : D → ℕ} {P : D → C → Type 0} {r : Read A} (f : A → Reader C) → Goes s low next Q r None → Goes s low' next' P (after s r f) None
 unfolding after
