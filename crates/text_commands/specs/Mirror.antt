@@ -1,5 +1,5 @@
 -- What each function answers, in the code's own terms: what reading a command does to the tables of names and to the words of the program. Assumes nothing.
-use Rattle.std.specs.Prelude.{ℕ, ◌+◌, ◌≤◌, ◌<◌, ◌≡◌, Bool, List, ◌++◌, length}
+use Rattle.std.specs.Prelude.{ℕ, suc, ◌+◌, ◌≤◌, ◌<◌, ◌≡◌, Bool, List, ◌++◌, length, Option, None, Some}
 use Rattle.std.proofs.lemmas.List.Edits.{sets}
 use Rattle.gil.specs.Tree.{Expr, Cmd, return, fail, Name}
 use Rattle.gil.specs.Names.{cmd_vars, cmd_properties, cmd_calls, is_end, with_names}
@@ -9,6 +9,11 @@ use Rattle.gil.specs.Numbers.{most_commands, most_procedures, most_properties, m
 use Rattle.text_names.specs.Mirror.Tables.{Kept, Grows}
 use Rattle.gil.specs.Reading.{Reader, ◌>>=◌, token, as_word, command_word}
 use Rattle.text_values.specs.Mirror.{jump_at, numbered}
+
+-- one more than the number that is jumped to, if any is
+abbrev pub one_past : Option ℕ → ℕ
+one_past None = 0
+one_past (Some n) = suc n
 
 -- a command, number `n` of all
 pub record Does (s t t' p p' k k' code code' : List ℕ) (n out out' jump : ℕ) (ends : Bool) (c : Cmd Name) : Type 0 where

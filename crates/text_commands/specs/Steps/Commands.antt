@@ -1,5 +1,5 @@
 -- Reading a command, form by form: what its parts give, it gives. Assumes nothing.
-use Rattle.std.specs.Prelude.{ℕ, suc, ◌≡◌, true, false, List, length, eqb}
+use Rattle.std.specs.Prelude.{ℕ, suc, ◌≡◌, true, false, List, eqb, Option, None, Some}
 use Rattle.std.proofs.Math.Path.{refl, ap}
 use Rattle.std.proofs.Common.{sym, ◌∙◌, subst, arith, ne_eqb}
 use Rattle.gil.specs.Text.{Key, k_ifgoto, k_return, k_fail, k_vanish, k_true, k_false, k_not, k_and, k_or, k_lookup, k_mutate, k_dispose, Token, Word, lexeme}
@@ -9,26 +9,16 @@ use Rattle.gil.specs.Numbers.{most_depth}
 use Rattle.text_words.specs.Mirror.Kinds.{name_token, ended_token, ifgoto_token, return_token, fail_token, vanish_token}
 use Rattle.text_words.specs.Mirror.Words.{key_kind, Stands, a_name, a_number, a_u_site, an_i_site, a_fault, a_key}
 use Rattle.text_tokens.specs.Mirror.Seen.{name_at, Seen, a_word, a_property, becoming, a_mark, the_end, Found}
-use Rattle.text_forms.specs.Mirror.Goes.{Goes, anything}
-use Rattle.text_forms.specs.Laws.Goes.{stuck, weaken, onto, first, next, ended}
+use Rattle.text_forms.specs.Mirror.Goes.{Goes, Passes, Gives, anything}
+use Rattle.text_forms.specs.Laws.Goes.{weaken, first}
 use Rattle.text_forms.specs.Laws.Seeing.{Placed, reads, faults, carries}
 use Rattle.text_values.specs.Laws.{ahead_step}
 use Rattle.text_commands.specs.Mirror.{bare_command}
 
--- `v := ..`
-pub setting_goes : {s : List ℕ} {P Q : Cmd Name → Type 0} {at a m : ℕ} (v : Name) → ((c : Cmd Name) → Q c → P c) → Goes s (suc at) anything (the_becomes s at) a → Goes s (suc a) Q (value_from v (lexeme s a).token s a) m → Goes s (suc at) P (setting_of v s at) m
+-- past `:=`
+pub setting-first : {s : List ℕ} {at a : ℕ} {B : Type 0} {next : B → ℕ} {P : B → Cmd Name → Type 0} {o : Option B} (v : Name) → Passes s (suc at) anything (the_becomes s at) (Some a) → Goes s (suc a) next P (value_from v (lexeme s a).token s a) o → Goes s (suc at) next P (setting_of v s at) o
 unfolding setting_of ◌>>◌
-setting_goes {s} {P} {Q} {a = a} {m = m} v h gb gv =
-    first (λ u. ahead >>= value_from v) gb (λ z. stuck gv z)
-    (λ u w q. subst (λ (r : Read (Cmd Name)). Goes s a P r m) (sym (ahead_step s a (value_from v))) (weaken (omega arith) (onto h gv)))
-
-pub jump_goes : {s : List ℕ} {E : Expr Name → Type 0} {N : ℕ → Type 0} {P : Cmd Name → Type 0} {at a m : ℕ} → ((e : Expr Name) (n : ℕ) → E e → N n → P (ifgoto e n)) → Goes s (suc at) E (expr_deep most_depth s at) a → Goes s (suc a) N (the_number s a) m → Goes s (suc at) P (jump_of s at) m
-unfolding jump_of ◌>>=◌ expr
-jump_goes h ge gn = first _ ge (λ z. stuck gn z) (λ e we qe. next _ gn (λ z. z) (λ n wn qn. ended _ wn (h e n qe qn)))
-
-pub ending-goes : {s : List ℕ} {E : Expr Name → Type 0} {P : Cmd Name → Type 0} {at m : ℕ} (c : Expr Name → Cmd Name) → ((e : Expr Name) → E e → P (c e)) → Goes s (suc at) E (expr_deep most_depth s at) m → Goes s (suc at) P (ending_of c s at) m
-unfolding ending_of ◌>>=◌ expr
-ending-goes c h ge = first _ ge (λ z. z) (λ e we qe. ended _ we (h e qe))
+setting-first {s} {a = a} {next = next} {P} {o} v gb gv = first (λ u. ahead >>= value_from v) gb (λ u w q. subst (λ (r : Read (Cmd Name)). Goes s a next P r o) (sym (ahead_step s a (value_from v))) (weaken (omega arith) gv))
 
 unfoldable pub command_by : List ℕ → ℕ → ℕ → Reader (Cmd Name)
 command_by s k v =
@@ -80,23 +70,19 @@ command-by {s} {k = k} {v = v} (a_mark l) = sym (command-none s k v (λ z. omega
 command-by the_end = refl
 
 module _ {s : List ℕ} {at k v n : ℕ} (f : Found s at (lexeme s at) k v n) where
-  pub bare_form : {P : Cmd Name → Type 0} {m : ℕ} (j : ℕ) (p : Reader (Cmd Name)) → k ≡ j → (j ≡ ended_token → ⊥) → command_by s j v ≡ p → Goes s (suc n) P (p s n) m → Goes s (suc at) P (bare_command s at) m
+  pub bare_form : {B : Type 0} {next : B → ℕ} {P : B → Cmd Name → Type 0} {o : Option B} (j : ℕ) (p : Reader (Cmd Name)) → k ≡ j → (j ≡ ended_token → ⊥) → command_by s j v ≡ p → Goes s (suc n) next P (p s n) o → Goes s (suc at) next P (bare_command s at) o
   unfolding bare_command
   bare_form j p e h b g = carries f (λ t. command_word (as_word t)) p (λ z. h (sym e ∙ z)) (command-by f.seen ∙ ap (λ (i : ℕ). command_by s i v) e ∙ b) g
 
-  pub bare_done : {P : Cmd Name → Type 0} (j : ℕ) (c : Cmd Name) → k ≡ j → (j ≡ ended_token → ⊥) → command_by s j v ≡ done c → P c → Goes s (suc at) P (bare_command s at) n
+  pub bare_done : {B : Type 0} (P : B → Cmd Name → Type 0) {b : B} (j : ℕ) (c : Cmd Name) → k ≡ j → (j ≡ ended_token → ⊥) → command_by s j v ≡ done c → P b c → Gives s (suc at) P (bare_command s at) (Some (b, n))
   unfolding bare_command
-  bare_done j c e h b q = reads f (λ t. command_word (as_word t)) c (λ z. h (sym e ∙ z)) (command-by f.seen ∙ ap (λ (i : ℕ). command_by s i v) e ∙ b) q
+  bare_done P {b} j c e h d q = reads f (λ t. command_word (as_word t)) c (b, n) refl (λ z. h (sym e ∙ z)) (command-by f.seen ∙ ap (λ (i : ℕ). command_by s i v) e ∙ d) q
 
-  pub bare_none : {P : Cmd Name → Type 0} {m : ℕ} → (k ≡ name_token → ⊥) → (k ≡ ifgoto_token → ⊥) → (k ≡ return_token → ⊥) → (k ≡ fail_token → ⊥) → (k ≡ vanish_token → ⊥) → m ≡ suc (length s) → Goes s (suc at) P (bare_command s at) m
+  pub bare_none : {B : Type 0} {low : ℕ} {next : B → ℕ} {P : B → Cmd Name → Type 0} → (k ≡ name_token → ⊥) → (k ≡ ifgoto_token → ⊥) → (k ≡ return_token → ⊥) → (k ≡ fail_token → ⊥) → (k ≡ vanish_token → ⊥) → Goes s low next P (bare_command s at) None
   unfolding bare_command
-  bare_none a b c d e z = faults f (λ t. command_word (as_word t)) z (command-by f.seen ∙ command-none s k v a b c d e)
+  bare_none a b c d e = faults f (λ t. command_word (as_word t)) (command-by f.seen ∙ command-none s k v a b c d e)
 
-pub command-goes : {s : List ℕ} {P : Cmd Name → Type 0} {at a m : ℕ} → Goes s (suc at) P (bare_command s at) a → Goes s (suc a) anything (the_mark 59 s a) m → Goes s (suc at) P (command s at) m
-command-goes {s} {P} {at} {a} {m} gc gm = subst (λ (r : Read (Cmd Name)). Goes s (suc at) P r m) (sym apart) (first (λ c. the_mark 59 >> done c) gc (λ z. stuck gm z) (λ c wc qc. then c qc))
-  where
-    apart : command s at ≡ after s (bare_command s at) (λ c. the_mark 59 >> done c)
-    apart = unfold command bare_command ◌>>=◌ after token in refl
-
-    then : (c : Cmd Name) → P c → Goes s a P ((the_mark 59 >> done c) s a) m
-    then c q = unfold ◌>>◌ in next _ gm (λ z. z) (λ u w q'. ended c w q)
+-- the token comes first, so a command is what is left of it, and a semicolon
+pub apart : (s : List ℕ) (at : ℕ) → command s at ≡ after s (bare_command s at) (λ c. the_mark 59 >> done c)
+unfolding command bare_command ◌>>=◌ after token
+apart s at = refl

@@ -67,9 +67,9 @@ does_one {s} {t} {t'} {p} {k} {code} {code₁} {code'} {n} {out} {place = place}
           ∙ ap (sets (sets code out (cmd_nodes (numbered (with_names vs (cmd_vars c ++ vm)) (with_names qs (cmd_properties c ++ qm)) (with_names fs (cmd_calls c ++ fm)) c))) (command_at n)) (sym (ew (with_names vs (cmd_vars c ++ vm)) (with_names qs (cmd_properties c ++ qm)) (with_names fs (cmd_calls c ++ fm))));
     }
 
-pub does_jump : {s t t' p k code code₁ code' : List ℕ} {n out out' place m j : ℕ} {e : Expr Name} → Wrote s t t' code code₁ out out' e → code' ≡ put_command code₁ n jump_kind m place 0 0 → place ≡ out → j ≡ suc m → Does s t t' p p k k code code' n out out' j false (ifgoto e m)
+pub does_jump : {s t t' p k code code₁ code' : List ℕ} {n out out' place to m : ℕ} {e : Expr Name} → Wrote s t t' code code₁ out out' e → code' ≡ put_command code₁ n jump_kind to place 0 0 → place ≡ out → to ≡ m → Does s t t' p p k k code code' n out out' (suc to) false (ifgoto e m)
 unfolding nodes_of cmd_vars cmd_properties cmd_calls jump_at is_end cmd_size numbered rename_cmd cmd_nodes cmd_words
-does_jump w e z h = does_one w e z refl refl refl refl (λ vs qs fs. refl) (λ vs qs fs. refl) h refl
+does_jump {code₁ = code₁} {n = n} {place = place} w e z h = does_one w (e ∙ ap (λ (x : ℕ). put_command code₁ n jump_kind x place 0 0) h) z refl refl refl refl (λ vs qs fs. refl) (λ vs qs fs. refl) (ap suc h) refl
 
 pub does_ending : {s t t' p k code code₁ code' : List ℕ} {n out out' place kind : ℕ} {h : Expr Name → Cmd Name} {e : Expr Name} → Ending kind h → Wrote s t t' code code₁ out out' e → code' ≡ put_command code₁ n kind 0 place 0 0 → place ≡ out → Does s t t' p p k k code code' n out out' 0 true (h e)
 unfolding nodes_of cmd_vars cmd_properties cmd_calls jump_at is_end cmd_size numbered rename_cmd cmd_nodes cmd_words
@@ -89,3 +89,7 @@ does_vanish {code = code} {n = n} {out = out} e =
       size = λ h. sym (add-zero out);
       words = λ vs vm qs qm fs fm kv kq kf l h m. e ∙ command-sets code n vanish_kind 0 0 0 0 l m;
     }
+
+-- where the place after the words is known by another name
+pub does_out : {s t t' p p' k k' code code' : List ℕ} {n out out₁ out' j : ℕ} {b : Bool} {c : Cmd Name} → out' ≡ out₁ → Does s t t' p p' k k' code code' n out out₁ j b c → Does s t t' p p' k k' code code' n out out' j b c
+does_out {s} {t} {t'} {p} {p'} {k} {k'} {code} {code'} {n} {out} {j = j} {b} {c} e d = subst (λ (i : ℕ). Does s t t' p p' k k' code code' n out i j b c) (sym e) d

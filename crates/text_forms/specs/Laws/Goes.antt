@@ -1,12 +1,20 @@
 -- Readers in a row. Assumes nothing.
 use Rattle.std.specs.Prelude.{ℕ, suc, ◌≤◌, ◌≡◌, refl, List, length, Option, None, Some}
-use Rattle.std.proofs.Common.{sym, ap, subst, arith}
+use Rattle.std.proofs.Common.{sym, ap, ◌∙◌, subst, arith}
 use Rattle.gil.specs.Reading.{Read, faulty, read, Reader, after, done}
 use Rattle.text_forms.specs.Mirror.Goes.{Goes, fails, goes, Passes}
 
 pub weaken : {s : List ℕ} {low lower : ℕ} {A B : Type 0} {next : B → ℕ} {Q : B → A → Type 0} {r : Read A} {o : Option B} → lower ≤ low → Goes s low next Q r o → Goes s lower next Q r o
 weaken h fails = fails
 weaken h (goes e l w q) = goes e (omega arith) w q
+
+-- what holds of all that has `Q` holds of what was read
+pub onto : {s : List ℕ} {low : ℕ} {A B C : Type 0} {next : B → ℕ} {next' : C → ℕ} {Q : B → A → Type 0} {P : C → A → Type 0} {r : Read A} {b : B} {c : C} → next' c ≡ next b → ((a : A) → Q b a → P c a) → Goes s low next Q r (Some b) → Goes s low next' P r (Some c)
+onto z h (goes {a = a} e l w q) = goes (z ∙ e) l w (h a q)
+
+-- a fault is one whatever was to hold
+pub fault : {s : List ℕ} {low lower : ℕ} {A B C : Type 0} {next : B → ℕ} {next' : C → ℕ} {Q : B → A → Type 0} {P : C → A → Type 0} {r : Read A} → Goes s low next Q r None → Goes s lower next' P r None
+fault fails = fails
 
 -- what was read, and that nothing was
 pub record Item (s : List ℕ) (low : ℕ) {A : Type 0} (Q : A → Type 0) (r : Read A) (n : ℕ) : Type 0 where
