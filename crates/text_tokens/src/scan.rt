@@ -1,33 +1,18 @@
 // Where white space and runs of characters end.
-ghost use Rattle.std.specs.Prelude.{◌≡◌, ◌+◌, drop};
-ghost use Rattle.gil.specs.Text.{in_run, span, skip_white};
+ghost use Rattle.std.specs.Prelude.{◌≡◌, ℕ, Bool, ◌+◌, ◌≤◌, drop, length};
+ghost use Rattle.gil.specs.Text.{span};
+ghost use Rattle.text_tokens.specs.Mirror.Scan.{Tests};
 
-use text_words::classes;
-
-// the first place from `at` on that is not white
-pub fn past_white(text: &[u8], at: usize) -> usize
-    ensures { result ≡ skip_white text.now at }
+// the first place from `at` on whose byte is not of the class
+pub fn past<F: Fn(u8) -> bool>(text: &[u8], at: usize, class: F) -> usize
+    requires { F.IsAlwaysCallable class }
+    ensures ends { (p : ℕ → Bool) → Tests (F.post class) p → result ≡ at + span p (drop at text.now) }
+    ensures within { (at ≤ result) × (at ≤ length text.now → result ≤ length text.now) }
 {
-    let mut i = at;
-    while i < text.len() {
-        if !classes::is_white(text[i]) {
+    for i in at..text.len() {
+        if !class(text[i]) {
             return i;
         }
-        i += 1;
     }
-    i
-}
-
-// the first place from `at` on that is in no run
-pub fn past_run(text: &[u8], at: usize) -> usize
-    ensures { result ≡ at + span in_run (drop at text.now) }
-{
-    let mut i = at;
-    while i < text.len() {
-        if !classes::in_run(text[i]) {
-            return i;
-        }
-        i += 1;
-    }
-    i
+    at.max(text.len())
 }

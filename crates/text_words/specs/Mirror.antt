@@ -1,3 +1,4 @@
 -- What each function answers, in the code's own terms: nobody's promise. Assumes nothing.
-pub mod Kinds
+pub mod Keys
+pub mod Numbers
 pub mod Words

@@ -1,49 +1,32 @@
-// "A letter is A to Z or a to z": the classes of characters, each a match on a byte.
+// "A letter is A to Z or a to z": the classes of characters.
 ghost use Rattle.std.specs.Prelude.{◌≡◌};
 ghost use Rattle.gil.specs.Text.{letter, digit, in_run, white};
 
 pub fn is_letter(b: u8) -> bool
     ensures { result ≡ letter b }
 {
-    match b {
-        b'A'..=b'Z' => true,
-        b'a'..=b'z' => true,
-        _ => false,
-    }
+    b.is_ascii_alphabetic()
 }
 
 pub fn is_digit(b: u8) -> bool
     ensures { result ≡ digit b }
 {
-    match b {
-        b'0'..=b'9' => true,
-        _ => false,
-    }
+    b.is_ascii_digit()
 }
 
-// what stands in a run: letters, digits and underscores; most are small letters, so these are asked for first
+// What stands in a run: letters, digits and underscores. Most are small letters, so these are asked for first: one `matches!` alone cost a
+// text's check 13 % (docs/DECISIONS.md).
 pub fn in_run(b: u8) -> bool
     ensures { result ≡ in_run b }
 {
     if b >= b'a' {
         return b <= b'z';
     }
-    match b {
-        b'A'..=b'Z' => true,
-        b'0'..=b'9' => true,
-        b'_' => true,
-        _ => false,
-    }
+    matches!(b, b'A'..=b'Z' | b'0'..=b'9' | b'_')
 }
 
 pub fn is_white(b: u8) -> bool
     ensures { result ≡ white b }
 {
-    match b {
-        b' ' => true,
-        b'\n' => true,
-        b'\r' => true,
-        b'\t' => true,
-        _ => false,
-    }
+    matches!(b, b' ' | b'\n' | b'\r' | b'\t')
 }

@@ -1,27 +1,35 @@
--- What a token is to the code: a kind, a value and the place after it. A mark's kind is its byte; a word's kind and value are those of
--- `Stands`; a name or a property has its place for a value: where it starts, times 32, and its length. Assumes nothing.
-use Rattle.std.specs.Prelude.{ℕ, ◌≤◌, ◌<◌, ◌/◌, ◌%◌, ◌≡◌, List, length}
-use Rattle.gil.specs.Text.{part, Token, word, property, becomes, mark, ended, Lexeme, word_of}
-use Rattle.gil.specs.Numbers.{most_characters}
-use Rattle.text_words.specs.Mirror.Kinds.{property_token, becomes_token, ended_token, length_range}
-use Rattle.text_words.specs.Mirror.Words.{Stands}
+-- What a token of the code says of a token of the definitions, and of the place after it. Assumes nothing.
+use Rattle.std.specs.Prelude.{ℕ, ◌≤◌, ◌<◌, ◌≡◌, ◌≢◌, List, length}
+use Rattle.gil.specs.Text
+use Rattle.gil.specs.Text.{part, word, property, becomes, mark, ended, Lexeme, word_of, name, number, key, u_site, i_site, fault}
+use Rattle.text_words.specs.declared.keys.Key.{Key}
+use Rattle.text_words.specs.Mirror.Keys.{key_is}
+use Rattle.text_tokens.specs.declared.tokens.Place.{Place}
+use Rattle.text_tokens.specs.declared.tokens.Token.{Token}
+use Rattle.text_tokens.specs.declared.tokens.Token.TheVariants.{Name, Number, Reserved, USite, ISite, Fault, Property, Becomes, Mark, Ended}
 
 -- the name or property at a place
-unfoldable pub name_at : List ℕ → ℕ → List ℕ
-name_at s place = part s (place / length_range) (place % length_range)
+unfoldable pub name_at : List ℕ → Place → List ℕ
+name_at s p = part s p.start p.size
 
-pub data Seen (s : List ℕ) : Token → ℕ → ℕ → Type 0 where
-  a_word : {w : List ℕ} {place k v : ℕ} → (length w ≤ most_characters → name_at s place ≡ w) → Stands w place (word_of w) k v → Seen s (word w) k v
-  a_property : {p : List ℕ} {v : ℕ} → name_at s v ≡ p → Seen s (property p) property_token v
-  becoming : {v : ℕ} → Seen s becomes becomes_token v
-  a_mark : {b v : ℕ} → b < 256 → Seen s (mark b) b v
-  the_end : {v : ℕ} → Seen s ended ended_token v
+-- the code's token says what the token of the definitions is, and of a run what word it is
+pub data Seen (s : List ℕ) : Text.Token → Token → Type 0 where
+  a_name : {w : List ℕ} {p : Place} → word_of w ≡ name (name_at s p) → Seen s (word w) (Name p)
+  a_number : {w : List ℕ} {n : ℕ} → word_of w ≡ number n → Seen s (word w) (Number n)
+  a_key : {w : List ℕ} {k : Key} → word_of w ≡ key (key_is k) → Seen s (word w) (Reserved k)
+  a_u_site : {w : List ℕ} {n : ℕ} → word_of w ≡ u_site n → Seen s (word w) (USite n)
+  an_i_site : {w : List ℕ} {n : ℕ} → word_of w ≡ i_site n → Seen s (word w) (ISite n)
+  a_fault : {w : List ℕ} → word_of w ≡ fault → Seen s (word w) Fault
+  a_property : {w : List ℕ} {p : Place} → name_at s p ≡ w → Seen s (property w) (Property p)
+  becoming : Seen s becomes Becomes
+  a_mark : {b : ℕ} → b < 256 → Seen s (mark b) (Mark b)
+  the_end : Seen s ended Ended
 
 -- a lexeme found from a place on; a token within the text is followed by a place within the text
-pub record Found (s : List ℕ) (at : ℕ) (l : Lexeme) (k v n : ℕ) : Type 0 where
-  pub seen : Seen s l.token k v
+pub record Found (s : List ℕ) (at : ℕ) (l : Lexeme) (t : Token) (n : ℕ) : Type 0 where
+  pub seen : Seen s l.token t
   pub next : n ≡ l.next
   pub on : at ≤ n
-  pub more : (k ≡ ended_token → ⊥) → at < n
+  pub more : (t ≢ Ended) → at < n
   pub within : at ≤ length s → n ≤ length s
-  pub ends : length s ≤ at → k ≡ ended_token
+  pub ends : length s ≤ at → t ≡ Ended

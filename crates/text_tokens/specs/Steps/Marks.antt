@@ -1,15 +1,11 @@
 -- A mark that no other token starts with is told by its byte. Assumes nothing.
-use Prim.Native.Nat.{ℕ, suc, ◌+◌, ◌≤◌, ◌<◌}
-use Rattle.std.specs.Prelude.{◌≡◌, Bool, ◌&&◌, ◌||◌, length, drop, get_or, eqb}
-use Rattle.std.proofs.Math.Path.{refl, ap}
-use Rattle.std.proofs.Common.{sym, ◌∙◌, arith, drop_of_length-le, drop-cons}
-use Rattle.std.proofs.Math.Bool.{true, false, not}
-use mathlib.Core.List.{List, [], ◌∷◌}
-use borrow.Author.Tests.{ne_eqb, eqb-true}
-use Rattle.gil.specs.Text.{letter, digit, in_run, span, within, property, becomes, mark, Lexeme, quoted, coloned, marked, token_from, skip_white, lexeme}
+use Rattle.std.specs.Prelude.{ℕ, suc, ◌+◌, ◌≤◌, ◌<◌, ◌≡◌, refl, Bool, true, false, not, ◌&&◌, ◌||◌, List, [], ◌∷◌, length, drop, get_or, eqb, Some, None}
+use Rattle.std.proofs.Common.{sym, ap, ◌∙◌, drop_of_length-le, drop-cons, ne_eqb, eqb-true}
+use Rattle.gil.specs.Text.{letter, digit, in_run, white, span, within, property, becomes, mark, Lexeme, quoted, coloned, marked, token_from, skip_white, lexeme}
 use Rattle.gil.specs.Reading.{is_mark}
 use Rattle.gil.specs.Numbers.{most_characters}
 use Rattle.gil.proofs.Theory.Tests.{no_false, both}
+use Rattle.text_tokens.specs.declared.tokens.Token.TheVariants.{Mark}
 use Rattle.text_tokens.specs.Mirror.Marks.{lone, Marked}
 use Rattle.text_tokens.specs.Steps.Seen.{found_plain, found-past}
 
@@ -82,24 +78,17 @@ module _ (b : ℕ) (h : lone b ≡ true) where
       at true e = rw (e, token_from)
       at false e = rw (e, token_from) (byte_of s i c rest (eqb c 34) (eqb c 58) d)
 
-  module _ (s : List ℕ) (at i : ℕ) (e : i ≡ skip_white s at) where
-    none-there : (token_from s i (drop i s)).token ≡ (lexeme s at).token → is_mark b (token_from s i (drop i s)).token ≡ false → Marked s at b 0
-    none-there f g = record { found = λ n. absurd (n refl); other = λ z. ap (is_mark b) (sym f) ∙ g }
+  module _ (s : List ℕ) (at i : ℕ) (e : i ≡ at + span white (drop at s)) where
+    none-there : is_mark b (token_from s i (drop i s)).token ≡ false → Marked s at b None
+    unfolding lexeme skip_white
+    none-there g = ap (λ (j : ℕ). is_mark b (token_from s j (drop j s)).token) (sym e) ∙ g
 
-    same-token : (token_from s i (drop i s)).token ≡ (lexeme s at).token
-    unfolding lexeme
-    same-token = ap (λ (j : ℕ). (token_from s j (drop j s)).token) e
-
-    pub marked-end : length s ≤ i → Marked s at b 0
+    pub marked-end : length s ≤ i → Marked s at b None
     unfolding token_from is_mark
-    marked-end l = none-there same-token (ap (λ (r : List ℕ). is_mark b (token_from s i r).token) (drop_of_length-le s l))
+    marked-end l = none-there (ap (λ (r : List ℕ). is_mark b (token_from s i r).token) (drop_of_length-le s l))
 
-    pub marked_other : i < length s → (get_or s i 0 ≡ b → ⊥) → Marked s at b 0
-    marked_other l d = none-there same-token (ap (λ (r : List ℕ). is_mark b (token_from s i r).token) (drop-cons s i 0 l) ∙ another s i (get_or s i 0) (drop (suc i) s) d)
+    pub marked_other : i < length s → (get_or s i 0 ≡ b → ⊥) → Marked s at b None
+    marked_other l d = none-there (ap (λ (r : List ℕ). is_mark b (token_from s i r).token) (drop-cons s i 0 l) ∙ another s i (get_or s i 0) (drop (suc i) s) d)
 
-    pub marked-there : i < length s → get_or s i 0 ≡ b → b < 256 → Marked s at b (i + 1)
-    marked-there l d small =
-        record {
-          found = λ n. found-past s at i b 0 (i + 1) e (found_plain s i l b 0 d small no_run (λ z. no_false (ap (λ (c : ℕ). eqb c 34) z) no_quote) (λ z. no_false (ap (λ (c : ℕ). eqb c 58) z) no_colon));
-          other = λ z. absurd (omega arith);
-        }
+    pub marked-there : i < length s → get_or s i 0 ≡ b → b < 256 → Marked s at b (Some (i + 1))
+    marked-there l d small = found-past s at i (Mark b) (i + 1) e (found_plain s i l b d small no_run (λ z. no_false (ap (λ (c : ℕ). eqb c 34) z) no_quote) (λ z. no_false (ap (λ (c : ℕ). eqb c 58) z) no_colon))

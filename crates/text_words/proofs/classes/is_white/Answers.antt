@@ -1,24 +1,25 @@
 -- `classes::is_white` meets its contract. Assumes nothing.
-use borrow.Author.Tests.{ne_eqb}
+use Rattle.std.specs.Prelude.{ℕ, ◌≡◌, ◌⊎◌, refl, true, false}
+use Rattle.std.proofs.Common.{arith, ne_eqb, inl, inr, rules}
+use Rattle.text_words.specs.Steps.Classes.{on, everywhere}
 use Rattle.gil.specs.Text.{white}
 use Rattle.text_words.proofs.classes.is_white.Goals as goal
 
 pub returns-in-32 : goal.returns-in-32
-unfolding white
-returns-in-32 c = rw c.in-32.is
+unfolding everywhere white
+returns-in-32 c = elim c.in-32.is [ inl e ↦ rw e | inr e ↦ rw e ]
 
-pub returns-in-10 : goal.returns-in-10
-unfolding white
-returns-in-10 c = rw c.in-10.is
-
-pub returns-in-13 : goal.returns-in-13
-unfolding white
-returns-in-13 c = rw c.in-13.is
-
-pub returns-in-9 : goal.returns-in-9
-unfolding white
-returns-in-9 c = rw c.in-9.is
+pub returns-in-32-2 : goal.returns-in-32-2
+unfolding everywhere white
+returns-in-32-2 c = on white true 9 2 c.args.b refl (omega arith) (omega arith)
 
 pub returns-in_default : goal.returns-in_default
+unfolding everywhere white
+returns-in_default c = on white false 0 9 c.args.b refl (omega arith) (omega arith)
+
+pub returns-in_default-2 : goal.returns-in_default-2
 unfolding white
-returns-in_default c = simp (ne_eqb c.args.b 32 c.in_default.in_default-own.rest.0.0.0.1, ne_eqb c.args.b 10 c.in_default.in_default-own.rest.0.0.1, ne_eqb c.args.b 13 c.in_default.in_default-own.rest.0.1, ne_eqb c.args.b 9 c.in_default.in_default-own.rest.1)
+returns-in_default-2 c = none_of c.args.b (λ e. omega arith) (λ e. omega arith) (search rules)
+  where
+    none_of : (b : ℕ) → (b ≡ 9 → ⊥) → (b ≡ 10 → ⊥) → ((b ≡ 13) ⊎ (b ≡ 32) → ⊥) → false ≡ white b
+    none_of b h9 h10 h = simp (ne_eqb b 32 (λ e. h (inr e)), ne_eqb b 9 h9, ne_eqb b 13 (λ e. h (inl e)), ne_eqb b 10 h10)

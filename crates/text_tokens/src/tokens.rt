@@ -1,0 +1,34 @@
+// What a token is to the code.
+use text_words::keys::Key;
+
+// where a name or a property stands in the text: its first byte's place and its size
+#[derive(Clone, Copy, PartialEq, Eq)]
+pub struct Place {
+    pub start: u32,
+    pub size: u32,
+}
+
+// the place of what no text has
+pub const NOWHERE: Place = Place { start: 0, size: 0 };
+
+// A token: what a run of characters is, or `Fault` where it is none of a text's forms; a property, `:=`, another mark by its byte, or the end.
+#[derive(Clone, Copy, PartialEq, Eq)]
+pub enum Token {
+    Name(Place),
+    Number(u32),
+    Reserved(Key),
+    USite(u32),
+    ISite(u32),
+    Fault,
+    Property(Place),
+    Becomes,
+    Mark(u8),
+    Ended,
+}
+
+// a token and the place after it
+#[derive(Clone, Copy)]
+pub struct Lexeme {
+    pub token: Token,
+    pub next: usize,
+}

@@ -1,0 +1,75 @@
+// The reserved words, listed in one place, for whoever reads or writes them.
+ghost use Rattle.std.specs.Prelude.{◌≡◌};
+ghost use Rattle.gil.specs.Text;
+ghost use Rattle.gil.specs.Text.{reserved_words};
+ghost use Rattle.text_words.specs.Mirror.Keys.{keyed, IsCandidate};
+
+#[derive(Clone, Copy, PartialEq, Eq)]
+pub enum Key {
+    Ifgoto,
+    Return,
+    Fail,
+    Vanish,
+    True,
+    False,
+    Not,
+    And,
+    Or,
+    Lookup,
+    Mutate,
+    Dispose,
+}
+
+// each reserved word in its bytes, with its key; a `const` would be copied where it is asked
+pub static RESERVED: [(&[u8], Key); 12] = [
+    (b"ifgoto", Key::Ifgoto),
+    (b"return", Key::Return),
+    (b"fail", Key::Fail),
+    (b"vanish", Key::Vanish),
+    (b"true", Key::True),
+    (b"false", Key::False),
+    (b"not", Key::Not),
+    (b"and", Key::And),
+    (b"or", Key::Or),
+    (b"lookup", Key::Lookup),
+    (b"mutate", Key::Mutate),
+    (b"dispose", Key::Dispose),
+];
+
+// The one reserved word that a run may be, by its first letter and its length: to compare it with each of the table in turn would cost a
+// text's check more than it may take.
+fn candidate(run: &[u8]) -> Option<(&'static [u8], Key)>
+    ensures { IsCandidate run.now result }
+{
+    if run.is_empty() {
+        return None;
+    }
+    match run[0] {
+        b'i' => Some(RESERVED[0]),
+        b'r' => Some(RESERVED[1]),
+        b'f' => {
+            if run.len() == 5 {
+                Some(RESERVED[5])
+            } else {
+                Some(RESERVED[2])
+            }
+        }
+        b'v' => Some(RESERVED[3]),
+        b't' => Some(RESERVED[4]),
+        b'n' => Some(RESERVED[6]),
+        b'a' => Some(RESERVED[7]),
+        b'o' => Some(RESERVED[8]),
+        b'l' => Some(RESERVED[9]),
+        b'm' => Some(RESERVED[10]),
+        b'd' => Some(RESERVED[11]),
+        _ => None,
+    }
+}
+
+// which reserved word the run is
+pub fn find(run: &[u8]) -> Option<Key>
+    ensures { Text.find run.now reserved_words ≡ keyed result }
+{
+    let (word, key) = candidate(run)?;
+    if run == word { Some(key) } else { None }
+}
