@@ -1,3 +1,2 @@
 -- What each function answers, in the code's own terms: nobody's promise. Assumes nothing.
-pub mod Sizes
 pub mod Tables

@@ -1,100 +1,84 @@
-// Tables of names. A name is known by its place in the text (where it starts, times 32, and its length); a table holds the places of
-// the distinct names so far, in order of first appearance, in words 0 to 31, and their count in word 32. A table takes `cap` names, at
-// most 32; one name more and its count is cap + 1 for good. Contracts cite the definitions of crates/gil/specs/Names.antt.
+// Tables of names. A name is known by its place in the text; a table holds the places of the distinct names so far, in order of first
+// appearance. It takes so many names and no more: one name more and it is over for good. Contracts cite the definitions of
+// crates/gil/specs/Names.antt.
 #![tactic(auto)]
 
-ghost use Rattle.std.specs.Prelude.{◌≡◌, map, ◌+◌, ◌≤◌, ◌<◌, ◌/◌, ◌%◌, min, length, take};
-ghost use Rattle.gil.specs.Text;
-ghost use Rattle.gil.specs.Names.{place_of};
+ghost use Rattle.gil.specs.Text.{same};
 ghost use Rattle.text_tokens.specs.Mirror.Seen.{name_at};
-ghost use Rattle.text_names.specs.Mirror.Tables.{Interned};
-ghost use Rattle.text_words.specs.Mirror.Kinds.{length_range};
-ghost use Rattle.text_names.specs.Mirror.Sizes.{most_names, names_words};
+ghost use Rattle.text_names.specs.declared.TheConstants.{MOST_NAMES};
+ghost use Rattle.std.specs.Prelude.{◌≡◌, ◌+◌, ◌≤◌, ◌<◌, min, length, IfSome, ltb, List, [], ℕ};
 
-use machine_code::wide;
-use text_tokens::lexemes::LENGTH_RANGE;
-use text_words::words;
+use text_tokens::texts::Text;
+use text_tokens::tokens::{NOWHERE, Place};
 
-// What a table takes at most, where its count stands, and its words
+// what a table takes at most
 pub const MOST_NAMES: usize = 32;
 
-pub const COUNT_AT: usize = MOST_NAMES;
-
-pub const NAMES_WORDS: usize = COUNT_AT + 1;
-
-const LENGTHS: u32 = LENGTH_RANGE as u32;
-
-fn least(a: usize, b: usize) -> usize
-    ensures { result ≡ min a b }
-{
-    if a < b {
-        return a;
-    }
-    b
-}
-
-// where the name at a place starts and ends, as far as it lies in a text of `n` bytes
-fn start_of(n: usize, place: u32) -> usize
-    ensures { result ≡ min n (place / length_range) }
-{
-    least(n, (place / LENGTHS) as usize)
-}
-
-fn end_of(n: usize, place: u32) -> usize
-    ensures { result ≡ min n (place / length_range + place % length_range) }
-{
-    least(n, (place / LENGTHS + place % LENGTHS) as usize)
+// The places of the names, of which the first `count` are taken, as far as `most` goes; a count over `most` says that a name found no room.
+#[derive(Drop)]
+pub struct Names {
+    pub places: [Place; MOST_NAMES],
+    pub count: usize,
+    pub most: usize,
+    ghost fits: { most ≤ MOST_NAMES },
+    ghost few: { count ≤ most + 1 },
 }
 
 // the word is the name at a place
-fn is_named(text: &[u8], word: &[u8], place: u32) -> bool
-    ensures { result ≡ Text.same word.now (name_at text.now place) }
+fn is_named(text: &Text, word: &[u8], place: Place) -> bool
+    ensures { result ≡ same word.now (name_at text.now place) }
 {
-    let start = start_of(text.len(), place);
-    let end = end_of(text.len(), place);
-    words::same(word, &text[start..end])
+    word == text.name(place)
 }
 
-// the word's place among the first n names of a table, or n
-pub fn search(text: &[u8], word: &[u8], names: &[u32; NAMES_WORDS], n: usize) -> usize
-    requires { n ≤ most_names }
-    ensures { (length names.now ≡ names_words → result ≡ place_of word.now (map (name_at text.now) (take n names.now))) × (result ≤ n) }
-{
-    let mut i = 0;
-    while i < n {
-        if is_named(text, word, names[i]) {
-            return i;
+impl Names {
+    ghost use Rattle.gil.specs.Tree.{Name};
+    ghost use Rattle.text_tokens.specs.Mirror.Seen.{name_at};
+    ghost use Rattle.text_names.specs.Mirror.Tables.{FoundIn, Interned, Kept, known, most_names};
+
+    // no names yet, and room for `most`
+    pub fn new(most: usize) -> Self
+        requires { most ≤ most_names }
+        ensures { (s : List ℕ) → Kept s most result [] }
+    {
+        Names {
+            places: [NOWHERE; MOST_NAMES],
+            count: 0,
+            most: most,
         }
-        i += 1;
     }
-    n
-}
 
-// the place of the name at a place of the text among the first n names of a table, or n
-pub fn find(text: &[u8], place: u32, names: &[u32; NAMES_WORDS], n: usize) -> usize
-    requires { n ≤ most_names }
-    ensures { (length names.now ≡ names_words → result ≡ place_of (name_at text.now place) (map (name_at text.now) (take n names.now))) × (result ≤ n) }
-{
-    let start = start_of(text.len(), place);
-    let end = end_of(text.len(), place);
-    search(text, &text[start..end], names, n)
-}
+    // some name found no room
+    pub fn is_over(&self) -> bool
+        ensures { result ≡ ltb self.now.most self.now.count }
+    {
+        self.count > self.most
+    }
 
-// the number of the name at a place in a table, which takes the name in where it is new
-pub fn intern(text: &[u8], place: u32, names: &mut [u32; NAMES_WORDS], cap: usize) -> usize
-    requires { cap ≤ most_names }
-    ensures { Interned text.now cap names.old names.new (name_at text.now place) result × (result ≤ cap) }
-{
-    let n = least(wide(names[COUNT_AT]), cap);
-    let i = find(text, place, names, n);
-    if i < n {
-        return i;
+    // where a word stands among the names
+    pub fn find(&self, text: &Text, word: &[u8]) -> Option<usize>
+        ensures { FoundIn word.now (known text.now self.now) result }
+    {
+        let known = &self.places[..self.count.min(self.most)];
+        known.iter().position(|place| is_named(text, word, *place))
     }
-    if n < cap {
-        names[n] = place;
-        names[COUNT_AT] = (n + 1) as u32;
-        return n;
+
+    // the number of the name at a place, which is taken in where it is new; none where there is no room for it
+    pub fn intern(&mut self, text: &Text, place: Place) -> Option<usize>
+        ensures interned { Interned text.now self.old.most self.old self.new (name_at text.now place) result }
+        ensures kept { self.new.most ≡ self.old.most }
+        ensures within { IfSome result (λ i. i < self.old.most) }
+    {
+        if let Some(i) = self.find(text, text.name(place)) {
+            return Some(i);
+        }
+        if self.count < self.most {
+            let i = self.count;
+            self.places[i] = place;
+            self.count = i + 1;
+            return Some(i);
+        }
+        self.count = self.most + 1;
+        None
     }
-    names[COUNT_AT] = (cap + 1) as u32;
-    cap
 }

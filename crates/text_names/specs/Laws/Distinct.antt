@@ -1,12 +1,7 @@
 -- Laws of the distinct names of a list: repeated names, tests on all names, and that there are no more distinct names than names to
 -- choose from. Assumes nothing.
-use Prim.Native.Nat.{ℕ, suc, ◌+◌, ◌≤◌, ◌<◌}
-use Rattle.std.specs.Prelude.{◌≡◌, Bool, not, ◌||◌, length, eqb}
-use Rattle.std.proofs.Math.Path.{refl, sym, ap}
-use Rattle.std.proofs.Common.{◌∙◌, subst, eq-eqb, ne_eqb, length-append}
-use Rattle.std.proofs.Math.Bool.{true, false}
-use mathlib.Core.List.{List, [], ◌∷◌, ◌++◌, append_assoc}
-use native.Mathlib.Omega.{arith}
+use Rattle.std.specs.Prelude.{ℕ, suc, ◌+◌, ◌≤◌, ◌<◌, ◌≡◌, refl, Bool, true, false, not, ◌||◌, List, [], ◌∷◌, ◌++◌, length, eqb}
+use Rattle.std.proofs.Common.{sym, ap, ◌∙◌, subst, arith, eq-eqb, ne_eqb, length-append, append-nil, append_assoc}
 use Rattle.gil.specs.Text.{same}
 use Rattle.gil.specs.Tree.{Name}
 use Rattle.gil.specs.Names.{any, has, with_name, with_names, repeated}
@@ -120,7 +115,7 @@ dup-more ns w ws e =
 
 dup-none : (ns ws : List Name) → dup ns ws ≡ false → with_names ns ws ≡ ns ++ ws
 unfolding with_names
-dup-none ns [] e = sym (mathlib.Core.List.append-nil ns)
+dup-none ns [] e = sym (append-nil ns)
 dup-none ns (w ∷ ws) e = at (has w ns) refl (dup-none (ns ++ (w ∷ [])) ws)
   where
     twice : has w ns ≡ true → dup ns (w ∷ ws) ≡ true

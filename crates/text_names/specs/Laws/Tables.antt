@@ -1,10 +1,9 @@
 -- Laws of tables: names in a row, numbers that stay, and counts. Assumes nothing.
-use Rattle.std.specs.Prelude.{ℕ, ◌+◌, min, ◌≡◌, refl, Bool, true, false, List, [], ◌∷◌, ◌++◌, map, length, take, get_or, ltb}
+use Rattle.std.specs.Prelude.{ℕ, ◌+◌, min, ◌≡◌, refl, Bool, true, false, List, [], ◌∷◌, ◌++◌, ltb, Option}
 use Rattle.std.proofs.Common.{sym, ap, ◌∙◌, subst, arith, lt-ltb, le-ltb, ltb-true, ltb-false}
 use Rattle.gil.specs.Tree.{Name}
 use Rattle.gil.specs.Names.{with_name, with_names}
-use Rattle.text_tokens.specs.Mirror.Seen.{name_at}
-use Rattle.text_names.specs.Mirror.Sizes.{count_at, names_words}
+use Rattle.text_names.specs.declared.Names.{Names}
 use Rattle.text_names.specs.Mirror.Tables.{Kept, number_in, Interned, Grows}
 use Rattle.text_names.specs.Laws.Lists.{place-take, with_names-append, place_kept, place_in}
 
@@ -21,21 +20,14 @@ cut-tells cap n = at (ltb cap n) refl
     at true e = lt-ltb cap (min (cap + 1) n) (omega (arith, ltb-true cap n e))
     at false e = le-ltb cap (min (cap + 1) n) (omega (arith, ltb-false cap n e))
 
-pub grows_none : {s : List ℕ} {cap : ℕ} {t : List ℕ} → Grows s cap t t []
+pub grows_none : {s : List ℕ} {cap : ℕ} {t : Names} → Grows s cap t t []
 unfolding with_names
 grows_none = record { kept = λ all k. k }
 
-pub grows_one : {s : List ℕ} {cap : ℕ} {t t' : List ℕ} {w : Name} {r : ℕ} → Interned s cap t t' w r → Grows s cap t t' (w ∷ [])
+pub grows_one : {s : List ℕ} {cap : ℕ} {t t' : Names} {w : Name} {r : Option ℕ} → Interned s cap t t' w r → Grows s cap t t' (w ∷ [])
 unfolding with_names
 grows_one i = record { kept = λ all k. i.kept all k }
 
-pub grows_then : {s : List ℕ} {cap : ℕ} {t t' t'' : List ℕ} {us ws : List Name} → Grows s cap t t' us → Grows s cap t' t'' ws → Grows s cap t t'' (us ++ ws)
+pub grows_then : {s : List ℕ} {cap : ℕ} {t t' t'' : Names} {us ws : List Name} → Grows s cap t t' us → Grows s cap t' t'' ws → Grows s cap t t'' (us ++ ws)
 grows_then {s} {cap} {t} {t'} {t''} {us} {ws} f g =
     record { kept = λ all k. subst (λ (l : List Name). Kept s cap t'' l) (sym (with_names-append all us ws)) (g.kept (with_names all us) (f.kept all k)) }
-
--- an empty table
-pub kept-none : (s : List ℕ) (cap : ℕ) (t : List ℕ) → length t ≡ names_words → get_or t count_at 0 ≡ 0 → Kept s cap t []
-kept-none s cap t l z = record { long = l; counted = omega arith; named = empty }
-  where
-    empty : map (name_at s) (take (min cap 0) t) ≡ take cap []
-    empty = let e : min cap 0 ≡ 0 = omega arith in rw e (sym (lib.Seq.take-nil cap))

@@ -1,148 +1,105 @@
--- The search in a table name by name, and the three answers of `intern`. Assumes nothing.
-use Rattle.std.specs.Prelude.{ℕ, suc, ◌+◌, ◌-◌, ◌≤◌, ◌<◌, ◌/◌, ◌%◌, min, ◌≡◌, true, false, List, [], ◌∷◌, ◌++◌, map}
-use Rattle.std.proofs.Common.{sym, ◌∙◌, arith, add-one, lt-ltb, le-ltb}
-use Rattle.std.proofs.Math.Path.{ap}
-use Rattle.std.proofs.lemmas.List.{map-append}
-use lib.ListN.{length, take, drop, get_or, set, length-set, length-take, length-drop, length-append}
-use lib.Seq.{drop-cons, get_or-take, drop-length, get_or-set_same, take_all, take-set-le, take-suc-set}
-use Rattle.gil.specs.Text.{same, part}
+-- The three answers of `intern`: the name is known, it is new and has room, or it has none. Assumes nothing.
+use Rattle.std.specs.Prelude.{ℕ, suc, ◌+◌, ◌≤◌, ◌<◌, min, ◌≡◌, List, [], ◌∷◌, ◌++◌, map, length, take, set, Some, None}
+use Rattle.std.proofs.Common.{sym, ap, ◌∙◌, arith, lt-ltb, le-ltb, length-set, length-take, length-append, take_all, take-suc-set}
+use Rattle.std.proofs.Math.Decide.{dec_le}
+use Rattle.std.proofs.lemmas.List.{map-append, length-map}
 use Rattle.gil.specs.Tree.{Name}
 use Rattle.gil.specs.Names.{place_of, with_name}
-use Rattle.text_words.specs.Mirror.Kinds.{length_range}
+use Rattle.text_tokens.specs.declared.tokens.Place.{Place}
 use Rattle.text_tokens.specs.Mirror.Seen.{name_at}
-use Rattle.text_names.specs.Mirror.Sizes.{most_names, count_at, names_words}
-use Rattle.text_names.specs.Mirror.Tables.{Kept, number_in, Interned}
+use Rattle.text_names.specs.declared.Names.{Names}
+use Rattle.text_names.specs.Mirror.Tables.{most_names, known, Kept, number_in, Interned}
 use Rattle.text_names.specs.Laws.Lists.{has-place, place-take, with_name_old, with_name-new, place-new}
 use Rattle.text_names.specs.Steps.Lists.{with_name-longer, with_name-first}
 
--- a name by its place: the part that lies in the text is all of it
-pub part-is : (s : List ℕ) (place start end : ℕ) → start ≡ min (length s) (place / length_range) → end ≡ min (length s) (place / length_range + place % length_range) → take (end - start) (drop start s) ≡ name_at s place
-unfolding name_at part
-part-is s place start end e f = at s (place / length_range) (place % length_range) start end e f
-  where
-    at : (s : List ℕ) (i n start end : ℕ) → start ≡ min (length s) i → end ≡ min (length s) (i + n) → take (end - start) (drop start s) ≡ take n (drop i s)
-    at s i n start end e f = elim (native.Mathlib.Decide.dec_le i (length s)) [ yes h ↦ inside h | no h ↦ outside (omega arith) ]
-      where
-        inside : i ≤ length s → take (end - start) (drop start s) ≡ take n (drop i s)
-        inside h = let a : start ≡ i = omega arith in rw a (elim (native.Mathlib.Decide.dec_le (i + n) (length s)) [ yes l ↦ (let b : end - i ≡ n = omega arith in rw b) | no l ↦ take_all (end - i) (drop i s) (omega (arith, length-drop i s)) ∙ sym (take_all n (drop i s) (omega (arith, length-drop i s))) ])
-
-        outside : length s < i → take (end - start) (drop start s) ≡ take n (drop i s)
-        outside h = nil (end - start) start (omega arith) ∙ sym (nil n i (omega arith))
-          where
-            nil : (m j : ℕ) → length s ≤ j → take m (drop j s) ≡ []
-            nil m j l = rw (lib.ListN.drop_of_length-le s l) (lib.Seq.take-nil m)
-
--- the names of a table one by one
-module _ (s : List ℕ) (w : Name) (t : List ℕ) (n : ℕ) (l : length t ≡ names_words) (m : n ≤ most_names) where
-  abbrev pub rest : ℕ → ℕ
-  rest i = place_of w (map (name_at s) (drop i (take n t)))
-
-  long : length (take n t) ≡ n
-  long = omega (arith, length-take n t)
-
-  pub rest_all : place_of w (map (name_at s) (take n t)) ≡ 0 + rest 0
-  rest_all = omega arith
-
-  pub rest-none : (i : ℕ) → n ≤ i → i ≤ n → n ≡ i + rest i
-  unfolding place_of
-  rest-none i h k = let e : i ≡ length (take n t) = omega (arith, long) in rw (e, drop-length (take n t)) (omega (arith, long))
-
-  step : (i : ℕ) → i < n → drop i (take n t) ≡ get_or t i 0 ∷ drop (i + 1) (take n t)
-  step i h = let g : i < length (take n t) = omega (arith, long) in drop-cons (take n t) i 0 g ∙ rw (get_or-take n t i 0 h, add-one i)
-
-  pub rest-here : (i : ℕ) → i < n → same w (name_at s (get_or t i 0)) ≡ true → i ≡ i + rest i
-  unfolding place_of
-  rest-here i h e = rw (step i h) (rw (e, place_of) (omega arith))
-
-  pub rest-on : (i : ℕ) → i < n → same w (name_at s (get_or t i 0)) ≡ false → i + rest i ≡ i + 1 + rest (i + 1)
-  unfolding place_of
-  rest-on i h e = rw (step i h) (rw (e, place_of) (omega arith))
-
--- what the search for the name at a place finds
-pub searched : (s : List ℕ) (place start end : ℕ) (t : List ℕ) (n i : ℕ) → start ≡ min (length s) (place / length_range) → end ≡ min (length s) (place / length_range + place % length_range) → (length t ≡ names_words → i ≡ place_of (take (end - start) (drop start s)) (map (name_at s) (take n t))) → length t ≡ names_words → i ≡ place_of (name_at s place) (map (name_at s) (take n t))
-searched s place start end t n i a b f l = f l ∙ ap (λ (w : Name). place_of w (map (name_at s) (take n t))) (part-is s place start end a b)
-
--- `intern` on a table
-module _ (s : List ℕ) (cap : ℕ) (t : List ℕ) (place n i : ℕ) (c : cap ≤ most_names) (cut : n ≡ min (get_or t count_at 0) cap) (w : Name) (is : w ≡ name_at s place) (at : length t ≡ names_words → i ≡ place_of w (map (name_at s) (take n t))) where
-  module _ (all : List Name) (k : Kept s cap t all) where
-    size : n ≡ min cap (length all)
+module _ (s : List ℕ) (t : Names) (place : Place) where
+  module _ (all : List Name) (k : Kept s t.most t all) where
+    size : min t.count t.most ≡ min t.most (length all)
     size = omega (arith, k.counted)
 
-    first : i ≡ place_of w (take cap all)
-    first = at k.long ∙ ap (λ (m : ℕ). place_of w (map (name_at s) (take m t))) size ∙ ap (place_of w) k.named
+    knows : known s t ≡ take t.most all
+    unfolding known
+    knows = ap (λ (m : ℕ). map (name_at s) (take m t.places)) size ∙ k.named
 
-    least : i ≡ min cap (place_of w all)
-    least = first ∙ place-take w cap all
+    how_many : length (known s t) ≡ min t.most (length all)
+    how_many = ap length knows ∙ length-take t.most all
 
-    known : i < n → with_name all w ≡ all
-    known h = with_name_old all w (has-place w all ∙ lt-ltb (place_of w all) (length all) (omega (arith, size, least)))
+    first : place_of (name_at s place) (known s t) ≡ min t.most (place_of (name_at s place) all)
+    first = ap (place_of (name_at s place)) knows ∙ place-take (name_at s place) t.most all
 
-    fresh : n ≤ i → n < cap → with_name all w ≡ all ++ (w ∷ [])
-    fresh h l = with_name-new all w (has-place w all ∙ le-ltb (place_of w all) (length all) (omega (arith, size, least)))
+    old : (i : ℕ) → i ≡ place_of (name_at s place) (known s t) → i < length (known s t) → with_name all (name_at s place) ≡ all
+    old i e l = with_name_old all (name_at s place) (has-place (name_at s place) all ∙ lt-ltb (place_of (name_at s place) all) (length all) (omega (arith, first, how_many)))
 
-    room : n ≤ i → n < cap → length all ≡ n
-    room h l = omega (arith, size)
-
-    named_new : n ≤ i → n < cap → map (name_at s) (take (n + 1) (set (set t n place) count_at (n + 1))) ≡ all ++ (w ∷ [])
-    named_new h l =
-        let a : n < length t = omega (arith, k.long) in
-        let b : n + 1 ≤ most_names = omega arith in
-        let d : take (min cap (length all)) t ≡ take n t = ap (λ (m : ℕ). take m t) (sym size) in
-        let e : take cap all ≡ all = take_all cap all (omega (arith, room h l)) in
-        let f : take (n + 1) (set t n place) ≡ take n t ++ (place ∷ []) = rw (add-one n) (take-suc-set t n place a) in
-        ap (map (name_at s)) (take-set-le (n + 1) (set t n place) count_at (n + 1) b ∙ f)
-        ∙ map-append (name_at s) (take n t) (place ∷ [])
-        ∙ rw is (ap (λ (ns : List Name). ns ++ (name_at s place ∷ [])) (ap (map (name_at s)) (sym d) ∙ k.named ∙ e))
-
-    kept_new : n ≤ i → n < cap → Kept s cap (set (set t n place) count_at (n + 1)) (with_name all w)
-    kept_new h l = rw (fresh h l) (record { long = length-set (set t n place) count_at (n + 1) ∙ length-set t n place ∙ k.long; counted = count; named = names })
-      where
-        more : length (all ++ (w ∷ [])) ≡ n + 1
-        more = length-append all (w ∷ []) ∙ omega (arith, room h l)
-
-        count : get_or (set (set t n place) count_at (n + 1)) count_at 0 ≡ min (cap + 1) (length (all ++ (w ∷ [])))
-        count = get_or-set_same (set t n place) count_at (n + 1) 0 (omega (arith, length-set t n place, k.long)) ∙ omega (arith, more)
-
-        names : map (name_at s) (take (min cap (length (all ++ (w ∷ [])))) (set (set t n place) count_at (n + 1))) ≡ take cap (all ++ (w ∷ []))
-        names =
-            let a : min cap (length (all ++ (w ∷ []))) ≡ n + 1 = omega (arith, more) in
-            rw a (named_new h l ∙ sym (take_all cap (all ++ (w ∷ [])) (omega (arith, more))))
-
-    number-new : n ≤ i → n < cap → n ≡ number_in cap (with_name all w) w
+    old-number : (i : ℕ) → i ≡ place_of (name_at s place) (known s t) → i < length (known s t) → i ≡ number_in t.most (with_name all (name_at s place)) (name_at s place)
     unfolding number_in
-    number-new h l = rw (fresh h l) (omega (arith, room h l, place-take w cap (all ++ (w ∷ [])), place-new w all (omega (arith, size, least, room h l))))
+    old-number i e l = rw (old i e l) (e ∙ ap (place_of (name_at s place)) knows)
 
-    kept-over : n ≤ i → cap ≤ n → Kept s cap (set t count_at (cap + 1)) (with_name all w)
-    kept-over h l = record { long = length-set t count_at (cap + 1) ∙ k.long; counted = count; named = names }
-      where
-        full : cap ≤ length all
-        full = omega (arith, size)
+    module _ (e : place_of (name_at s place) (known s t) ≡ length (known s t)) where
+      unknown : min t.most (place_of (name_at s place) all) ≡ min t.most (length all)
+      unknown = omega (arith, first, how_many)
 
-        longer : suc cap ≤ length (with_name all w)
-        longer = elim (native.Mathlib.Decide.dec_le (suc cap) (length all)) [ yes g ↦ omega (arith, with_name-longer all w) | no g ↦ rw (with_name-new all w (has-place w all ∙ le-ltb (place_of w all) (length all) (omega (arith, size, least)))) (omega (arith, length-append all (w ∷ []), full)) ]
+      fresh : length all < t.most → with_name all (name_at s place) ≡ all ++ (name_at s place ∷ [])
+      fresh l = with_name-new all (name_at s place) (has-place (name_at s place) all ∙ le-ltb (place_of (name_at s place) all) (length all) (omega (arith, unknown)))
 
-        count : get_or (set t count_at (cap + 1)) count_at 0 ≡ min (cap + 1) (length (with_name all w))
-        count = get_or-set_same t count_at (cap + 1) 0 (omega (arith, k.long)) ∙ omega (arith, longer)
+      room : t.count < t.most → length all ≡ t.count
+      room l = omega (arith, k.counted)
 
-        names : map (name_at s) (take (min cap (length (with_name all w))) (set t count_at (cap + 1))) ≡ take cap (with_name all w)
-        names =
-            let a : min cap (length (with_name all w)) ≡ min cap (length all) = omega (arith, longer, full) in
-            let b : min cap (length all) ≤ most_names = omega arith in
-            rw a (ap (map (name_at s)) (take-set-le (min cap (length all)) t count_at (cap + 1) b) ∙ k.named ∙ sym (with_name-first cap all w full))
+      longer : t.most ≤ t.count → suc t.most ≤ length (with_name all (name_at s place))
+      longer l = elim (dec_le (suc t.most) (length all)) [ yes g ↦ omega (arith, with_name-longer all (name_at s place)) | no g ↦ full (omega (arith, k.counted)) ]
+        where
+          full : length all ≡ t.most → suc t.most ≤ length (with_name all (name_at s place))
+          full q = rw (with_name-new all (name_at s place) (has-place (name_at s place) all ∙ le-ltb (place_of (name_at s place) all) (length all) (omega (arith, unknown)))) (omega (arith, length-append all (name_at s place ∷ [])))
 
-    number-over : n ≤ i → cap ≤ n → cap ≡ number_in cap (with_name all w) w
-    unfolding number_in
-    number-over h l = omega (arith, size, least) ∙ first ∙ ap (place_of w) (sym (with_name-first cap all w (omega (arith, size))))
+      new-number : t.count < t.most → t.count ≡ number_in t.most (with_name all (name_at s place)) (name_at s place)
+      unfolding number_in
+      new-number l =
+          let q : length all ≡ t.count = room l in
+          rw (fresh (omega arith)) (omega (arith, place-take (name_at s place) t.most (all ++ (name_at s place ∷ [])), place-new (name_at s place) all (omega (arith, unknown))))
 
-    number-known : i < n → i ≡ number_in cap (with_name all w) w
-    unfolding number_in
-    number-known h = rw (known h) first
+      over-number : t.most ≤ t.count → t.most ≡ number_in t.most (with_name all (name_at s place)) (name_at s place)
+      unfolding number_in
+      over-number l = omega (arith, unknown, k.counted) ∙ sym (place-take (name_at s place) t.most all) ∙ ap (place_of (name_at s place)) (sym (with_name-first t.most all (name_at s place) (omega (arith, k.counted))))
 
-  pub interned_known : i < n → Interned s cap t t w i
-  interned_known h = record { kept = λ all k. rw (known all k h) k; number = λ all k. number-known all k h }
+      module _ (t' : Names) (m : t'.most ≡ t.most) where
+        new-kept : t'.places ≡ set t.places t.count place → t'.count ≡ t.count + 1 → t.count < t.most → t.most ≤ most_names → Kept s t.most t' (with_name all (name_at s place))
+        new-kept p n l f = rw (fresh (omega (arith, room l))) (record { most = m; long = ap length p ∙ length-set t.places t.count place ∙ k.long; counted = omega (arith, n, more); named = names })
+          where
+            more : length (all ++ (name_at s place ∷ [])) ≡ t.count + 1
+            more = length-append all (name_at s place ∷ []) ∙ omega (arith, room l)
 
-  pub interned_new : n ≤ i → n < cap → Interned s cap t (set (set t n place) count_at (n + 1)) w n
-  interned_new h l = record { kept = λ all k. kept_new all k h l; number = λ all k. number-new all k h l }
+            before : map (name_at s) (take t.count t.places) ≡ all
+            before =
+                let q : min t.most (length all) ≡ t.count = omega (arith, room l) in
+                rw q at k.named ∙ take_all t.most all (omega (arith, room l))
 
-  pub interned_over : n ≤ i → cap ≤ n → Interned s cap t (set t count_at (cap + 1)) w cap
-  interned_over h l = record { kept = λ all k. kept-over all k h l; number = λ all k. number-over all k h l }
+            names : map (name_at s) (take (min t.most (length (all ++ (name_at s place ∷ [])))) t'.places) ≡ take t.most (all ++ (name_at s place ∷ []))
+            names =
+                let q : min t.most (length (all ++ (name_at s place ∷ []))) ≡ suc t.count = omega (arith, more) in
+                rw (q, p)
+                (ap (map (name_at s)) (take-suc-set t.places t.count place (omega (arith, k.long)))
+                ∙ map-append (name_at s) (take t.count t.places) (place ∷ [])
+                ∙ ap (λ (ns : List Name). ns ++ (name_at s place ∷ [])) before
+                ∙ sym (take_all t.most (all ++ (name_at s place ∷ [])) (omega (arith, more))))
+
+        over-kept : t'.places ≡ t.places → t'.count ≡ t.most + 1 → t.most ≤ t.count → Kept s t.most t' (with_name all (name_at s place))
+        over-kept p n l = record { most = m; long = ap length p ∙ k.long; counted = omega (arith, n, longer l); named = names }
+          where
+            names : map (name_at s) (take (min t.most (length (with_name all (name_at s place)))) t'.places) ≡ take t.most (with_name all (name_at s place))
+            names =
+                let q : min t.most (length (with_name all (name_at s place))) ≡ min t.most (length all) = omega (arith, longer l, k.counted) in
+                rw (q, p) (k.named ∙ sym (with_name-first t.most all (name_at s place) (omega (arith, k.counted))))
+
+  -- the three answers
+  pub interned_known : (i : ℕ) → i ≡ place_of (name_at s place) (known s t) → i < length (known s t) → Interned s t.most t t (name_at s place) (Some i)
+  interned_known i e l = record { kept = λ all k. rw (old all k i e l) k; number = λ all k. old-number all k i e l }
+
+  pub interned_new : (t' : Names) → t'.most ≡ t.most → t'.places ≡ set t.places t.count place → t'.count ≡ t.count + 1 → place_of (name_at s place) (known s t) ≡ length (known s t) → t.count < t.most → t.most ≤ most_names → Interned s t.most t t' (name_at s place) (Some t.count)
+  interned_new t' m p n e l f = record { kept = λ all k. new-kept all k e t' m p n l f; number = λ all k. new-number all k e l }
+
+  pub interned_over : (t' : Names) → t'.most ≡ t.most → t'.places ≡ t.places → t'.count ≡ t.most + 1 → place_of (name_at s place) (known s t) ≡ length (known s t) → t.most ≤ t.count → Interned s t.most t t' (name_at s place) None
+  interned_over t' m p n e l = record { kept = λ all k. over-kept all k e t' m p n l; number = λ all k. over-number all k e l }
+
+-- a known name's number is below the limit
+pub known-within : (s : List ℕ) (t : Names) → length (known s t) ≤ t.most
+unfolding known
+known-within s t = omega (arith, length-map (take (min t.count t.most) t.places) (name_at s), length-take (min t.count t.most) t.places)
