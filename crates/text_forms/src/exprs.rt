@@ -1,17 +1,21 @@
 // Expressions, "at most eight deep": read by recursion with the depth that is left, into prefix words.
-ghost use Rattle.std.specs.Prelude.{◌≡◌, suc};
+ghost use Rattle.std.specs.Prelude.{◌≡◌, ◌<◌, suc};
+ghost use Rattle.gil.specs.Text.{lexeme};
 ghost use Rattle.gil.specs.Reading.{expr_deep, bracketed};
+ghost use Rattle.text_tokens.specs.declared.tokens.Token.TheVariants.{Reserved};
+ghost use Rattle.text_tokens.specs.Mirror.Seen.{Found};
 ghost use Rattle.text_forms.specs.Mirror.Goes.{Passes};
 ghost use Rattle.text_forms.specs.Mirror.Stores.{put_number, after_number};
 ghost use Rattle.text_forms.specs.Mirror.Wrote.{Wrote};
 
 use crate::forms;
 use crate::store::Words;
-use crate::texts::Text;
 use gil::limits::{MOST_DEPTH, MOST_VARIABLES};
 use machine_code::{KIND, NEXT_WORD, NOT, TRUTH, VARIABLE};
-use text_names::NAMES_WORDS;
-use text_words::words;
+use text_names::Names;
+use text_tokens::texts::Text;
+use text_tokens::tokens::Token;
+use text_words::keys::Key;
 
 // "at most eight deep"
 pub const DEPTH: usize = MOST_DEPTH as usize;
@@ -36,7 +40,7 @@ pub fn expr(
     text: &Text,
     at: usize,
     depth: usize,
-    vars: &mut [u32; NAMES_WORDS],
+    vars: &mut Names,
     code: &mut Words,
 ) -> Option<usize>
     ensures same { code.new.code.ghost_name ≡ code.old.code.ghost_name }
@@ -46,29 +50,52 @@ pub fn expr(
         return None;
     }
     let t = text.token(at);
-    match t.kind {
-        words::NAME => {
-            let x = text.intern(t.value, vars, MOST_VARIABLES);
+    match t.token {
+        Token::Name(place) => {
+            let x = vars.intern(text, place).unwrap_or(MOST_VARIABLES);
             code.push(VARIABLE + x as u32);
             Some(t.next)
         }
-        words::NUMBER => {
-            number(code, t.value);
+        Token::Number(n) => {
+            number(code, n);
             Some(t.next)
         }
-        words::TRUE => {
+        Token::Reserved(key) => reserved(text, at, key, t.next, depth, vars, code),
+        Token::Mark(b'(') => operation(text, t.next, depth - 1, vars, code),
+        Token::Mark(_) => None,
+        _ => None,
+    }
+}
+
+// an expression that begins with a reserved word, which ends at `after`
+#[cycle(expr_operation)]
+fn reserved(
+    text: &Text,
+    at: usize,
+    key: Key,
+    after: usize,
+    depth: usize,
+    vars: &mut Names,
+    code: &mut Words,
+) -> Option<usize>
+    requires begins { Found text.now at (lexeme text.now at) (Reserved key) after }
+    requires deep { 0 < depth }
+    ensures same { code.new.code.ghost_name ≡ code.old.code.ghost_name }
+    ensures read { Passes text.now (suc at) (Wrote text.now vars.old vars.new code.old.code.now code.new.code.now code.old.out code.new.out) (expr_deep depth text.now at) result }
+{
+    match key {
+        Key::True => {
             code.push(TRUTH + 1);
-            Some(t.next)
+            Some(after)
         }
-        words::FALSE => {
+        Key::False => {
             code.push(TRUTH);
-            Some(t.next)
+            Some(after)
         }
-        words::NOT => {
+        Key::Not => {
             code.push(NOT);
-            expr(text, t.next, depth - 1, vars, code)
+            expr(text, after, depth - 1, vars, code)
         }
-        40 => operation(text, t.next, depth - 1, vars, code),
         _ => None,
     }
 }
@@ -79,7 +106,7 @@ fn operation(
     text: &Text,
     at: usize,
     depth: usize,
-    vars: &mut [u32; NAMES_WORDS],
+    vars: &mut Names,
     code: &mut Words,
 ) -> Option<usize>
     ensures same { code.new.code.ghost_name ≡ code.old.code.ghost_name }

@@ -5,4 +5,3 @@
 pub mod exprs;
 pub mod forms;
 pub mod store;
-pub mod texts;

@@ -7,6 +7,7 @@ use Rattle.gil.specs.Names.{cmd_vars, cmd_properties, cmd_calls, is_end, rename_
 use Rattle.machine_code.specs.Code.{cmd_nodes, cmd_words, code_words}
 use Rattle.machine_code.proofs.Accepted.Sizes.{cmd_size}
 use Rattle.gil.specs.Numbers.{most_procedures, most_properties, most_variables}
+use Rattle.text_names.specs.declared.Names.{Names}
 use Rattle.text_names.specs.Mirror.Tables.{Kept, number_in, Grows}
 use Rattle.gil.specs.Reading.{faulty, Reader, ◌>>=◌, ◌>>◌, the_mark, the_property, expr}
 
@@ -29,7 +30,7 @@ unfoldable pub numbered : List Name → List Name → List Name → Cmd Name →
 numbered vs qs fs c = rename_cmd (number_in most_variables vs) (number_in most_properties qs) (number_in most_procedures fs) c
 
 -- a command that sets the variable `v`, but for that: the variables read (table `t`), its property (`p`) and its callee (`k`)
-pub record Sets (s : List ℕ) (v : Name) (t t' p p' k k' code code' : List ℕ) (out out' kind place other second : ℕ) (c : Cmd Name) : Type 0 where
+pub record Sets (s : List ℕ) (v : Name) (t t' p p' k k' : Names) (code code' : List ℕ) (out out' kind place other second : ℕ) (c : Cmd Name) : Type 0 where
   pub reads : List Name
   pub variables : cmd_vars c ≡ v ∷ reads
   pub vars : Grows s most_variables t t' reads

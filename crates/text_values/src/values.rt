@@ -1,12 +1,12 @@
 // What follows `v :=`: each form is read by a function of its own, which puts its names into the tables and its expressions into the words.
-ghost use Rattle.std.specs.Prelude.{◌≡◌, List, ℕ, suc};
+ghost use Rattle.std.specs.Prelude.{◌≡◌, suc};
 ghost use Rattle.gil.specs.Text.{lexeme};
 ghost use Rattle.gil.specs.Tree.{Name};
 ghost use Rattle.gil.specs.Reading.{call_of, lookup_of, mutate_of, dispose_of, named, assignment, value_from};
-ghost use Rattle.text_tokens.specs.Mirror.Seen.{name_at};
-ghost use Rattle.text_names.specs.Mirror.Tables.{Interned};
+ghost use Rattle.text_tokens.specs.Mirror.Seen.{Found, name_at};
+ghost use Rattle.text_tokens.specs.declared.tokens.Token.TheVariants.{Reserved};
 ghost use Rattle.text_forms.specs.Mirror.Goes.{Gives};
-ghost use Rattle.text_forms.specs.Mirror.Wrote.{Wrote};
+ghost use Rattle.text_forms.specs.Mirror.Wrote.{Takes, Wrote};
 ghost use Rattle.text_values.specs.Mirror.{Sets, Opens};
 ghost use Rattle.machine_code.specs.Kinds.{command_number};
 ghost use Rattle.gil.specs.Numbers.{most_properties};
@@ -16,17 +16,18 @@ use machine_code::VARIABLE;
 use machine_code::kinds::CommandKind;
 use text_forms::exprs::DEPTH;
 use text_forms::store::Words;
-use text_forms::texts::Text;
 use text_forms::{exprs, forms};
-use text_names::NAMES_WORDS;
-use text_words::words;
+use text_names::Names;
+use text_tokens::texts::Text;
+use text_tokens::tokens::{Place, Token};
+use text_words::keys::Key;
 
 // the names that a procedure's commands speak of: its variables, and the properties and callees of the text so far
 #[derive(Drop)]
 pub struct Tables {
-    pub vars: [u32; NAMES_WORDS],
-    pub props: [u32; NAMES_WORDS],
-    pub calls: [u32; NAMES_WORDS],
+    pub vars: Names,
+    pub props: Names,
+    pub calls: Names,
 }
 
 // what follows `v :=`: a command's five words but for its variable
@@ -42,11 +43,11 @@ pub struct Form {
 fn plain(
     text: &Text,
     at: usize,
-    vars: &mut [u32; NAMES_WORDS],
+    vars: &mut Names,
     code: &mut Words,
 ) -> Option<(Form, usize)>
     ensures same { code.new.code.ghost_name ≡ code.old.code.ghost_name }
-    ensures read { (v : Name) (p k : List ℕ) → Gives text.now (suc at) (λ f. Sets text.now v vars.old vars.new p p k k code.old.code.now code.new.code.now code.old.out code.new.out (command_number f.kind) f.place f.other f.second) (assignment v text.now at) result }
+    ensures read { (v : Name) (p k : Names) → Gives text.now (suc at) (λ f. Sets text.now v vars.old vars.new p p k k code.old.code.now code.new.code.now code.old.out code.new.out (command_number f.kind) f.place f.other f.second) (assignment v text.now at) result }
 {
     let place = code.out as u32;
     let at = exprs::expr(text, at, DEPTH, vars, code)?;
@@ -63,16 +64,16 @@ fn plain(
 fn call_of(
     text: &Text,
     at: usize,
-    callee: u32,
-    vars: &mut [u32; NAMES_WORDS],
-    calls: &mut [u32; NAMES_WORDS],
+    callee: Place,
+    vars: &mut Names,
+    calls: &mut Names,
     code: &mut Words,
 ) -> Option<(Form, usize)>
     ensures same { code.new.code.ghost_name ≡ code.old.code.ghost_name }
-    ensures read { (v : Name) (p : List ℕ) → Gives text.now (suc at) (λ f. Sets text.now v vars.old vars.new p p calls.old calls.new code.old.code.now code.new.code.now code.old.out code.new.out (command_number f.kind) f.place f.other f.second) (call_of v (name_at text.now callee) text.now at) result }
+    ensures read { (v : Name) (p : Names) → Gives text.now (suc at) (λ f. Sets text.now v vars.old vars.new p p calls.old calls.new code.old.code.now code.new.code.now code.old.out code.new.out (command_number f.kind) f.place f.other f.second) (call_of v (name_at text.now callee) text.now at) result }
 {
     let at = forms::mark(text, at, b'(')?;
-    let callee = text.intern(callee, calls, MOST_PROCEDURES);
+    let callee = calls.intern(text, callee).unwrap_or(MOST_PROCEDURES);
     let place = code.out as u32;
     let at = exprs::expr(text, at, DEPTH, vars, code)?;
     let at = forms::mark(text, at, b')')?;
@@ -89,31 +90,32 @@ fn call_of(
 fn cell_of(
     text: &Text,
     at: usize,
-    vars: &mut [u32; NAMES_WORDS],
-    props: &mut [u32; NAMES_WORDS],
+    vars: &mut Names,
+    props: &mut Names,
     code: &mut Words,
 ) -> Option<(u32, usize)>
     ensures same { code.new.code.ghost_name ≡ code.old.code.ghost_name }
-    ensures read { Opens text.now at (Wrote text.now vars.old vars.new code.old.code.now code.new.code.now code.old.out code.new.out) (λ q w. Interned text.now most_properties props.old props.new w q) result }
+    ensures read { Opens text.now at (Wrote text.now vars.old vars.new code.old.code.now code.new.code.now code.old.out code.new.out) (λ q w. Takes text.now most_properties props.old props.new w q) result }
 {
     let at = forms::mark(text, at, b'(')?;
     let at = forms::mark(text, at, b'[')?;
     let at = exprs::expr(text, at, DEPTH, vars, code)?;
     let at = forms::mark(text, at, b',')?;
     let (property, at) = forms::property(text, at)?;
-    Some((text.intern(property, props, MOST_PROPERTIES) as u32, at))
+    let number = props.intern(text, property).unwrap_or(MOST_PROPERTIES);
+    Some((number as u32, at))
 }
 
 // `v := lookup([e, "p"])` past the action's name
 fn lookup_of(
     text: &Text,
     at: usize,
-    vars: &mut [u32; NAMES_WORDS],
-    props: &mut [u32; NAMES_WORDS],
+    vars: &mut Names,
+    props: &mut Names,
     code: &mut Words,
 ) -> Option<(Form, usize)>
     ensures same { code.new.code.ghost_name ≡ code.old.code.ghost_name }
-    ensures read { (v : Name) (k : List ℕ) → Gives text.now (suc at) (λ f. Sets text.now v vars.old vars.new props.old props.new k k code.old.code.now code.new.code.now code.old.out code.new.out (command_number f.kind) f.place f.other f.second) (lookup_of v text.now at) result }
+    ensures read { (v : Name) (k : Names) → Gives text.now (suc at) (λ f. Sets text.now v vars.old vars.new props.old props.new k k code.old.code.now code.new.code.now code.old.out code.new.out (command_number f.kind) f.place f.other f.second) (lookup_of v text.now at) result }
 {
     let place = code.out as u32;
     let (property, at) = cell_of(text, at, vars, props, code)?;
@@ -132,12 +134,12 @@ fn lookup_of(
 fn mutate_of(
     text: &Text,
     at: usize,
-    vars: &mut [u32; NAMES_WORDS],
-    props: &mut [u32; NAMES_WORDS],
+    vars: &mut Names,
+    props: &mut Names,
     code: &mut Words,
 ) -> Option<(Form, usize)>
     ensures same { code.new.code.ghost_name ≡ code.old.code.ghost_name }
-    ensures read { (v : Name) (k : List ℕ) → Gives text.now (suc at) (λ f. Sets text.now v vars.old vars.new props.old props.new k k code.old.code.now code.new.code.now code.old.out code.new.out (command_number f.kind) f.place f.other f.second) (mutate_of v text.now at) result }
+    ensures read { (v : Name) (k : Names) → Gives text.now (suc at) (λ f. Sets text.now v vars.old vars.new props.old props.new k k code.old.code.now code.new.code.now code.old.out code.new.out (command_number f.kind) f.place f.other f.second) (mutate_of v text.now at) result }
 {
     let place = code.out as u32;
     let (property, at) = cell_of(text, at, vars, props, code)?;
@@ -159,11 +161,11 @@ fn mutate_of(
 fn dispose_of(
     text: &Text,
     at: usize,
-    vars: &mut [u32; NAMES_WORDS],
+    vars: &mut Names,
     code: &mut Words,
 ) -> Option<(Form, usize)>
     ensures same { code.new.code.ghost_name ≡ code.old.code.ghost_name }
-    ensures read { (v : Name) (p k : List ℕ) → Gives text.now (suc at) (λ f. Sets text.now v vars.old vars.new p p k k code.old.code.now code.new.code.now code.old.out code.new.out (command_number f.kind) f.place f.other f.second) (dispose_of v text.now at) result }
+    ensures read { (v : Name) (p k : Names) → Gives text.now (suc at) (λ f. Sets text.now v vars.old vars.new p p k k code.old.code.now code.new.code.now code.old.out code.new.out (command_number f.kind) f.place f.other f.second) (dispose_of v text.now at) result }
 {
     let at = forms::mark(text, at, b'(')?;
     let place = code.out as u32;
@@ -182,19 +184,19 @@ fn dispose_of(
 fn named_form(
     text: &Text,
     at: usize,
-    vars: &mut [u32; NAMES_WORDS],
-    calls: &mut [u32; NAMES_WORDS],
+    vars: &mut Names,
+    calls: &mut Names,
     code: &mut Words,
 ) -> Option<(Form, usize)>
     ensures same { code.new.code.ghost_name ≡ code.old.code.ghost_name }
-    ensures read { (v : Name) (p : List ℕ) → Gives text.now (suc at) (λ f. Sets text.now v vars.old vars.new p p calls.old calls.new code.old.code.now code.new.code.now code.old.out code.new.out (command_number f.kind) f.place f.other f.second) (named v text.now at) result }
+    ensures read { (v : Name) (p : Names) → Gives text.now (suc at) (λ f. Sets text.now v vars.old vars.new p p calls.old calls.new code.old.code.now code.new.code.now code.old.out code.new.out (command_number f.kind) f.place f.other f.second) (named v text.now at) result }
 {
     let (name, at) = forms::name(text, at)?;
-    if text.past_mark(at, b'(') != 0 {
+    if text.past_mark(at, b'(').is_some() {
         return call_of(text, at, name, vars, calls, code);
     }
     let place = code.out as u32;
-    let x = text.intern(name, vars, MOST_VARIABLES);
+    let x = vars.intern(text, name).unwrap_or(MOST_VARIABLES);
     code.push(VARIABLE + x as u32);
     let form = Form {
         kind: CommandKind::Assign,
@@ -217,19 +219,43 @@ fn symbol(kind: CommandKind, site: u32) -> Form
     }
 }
 
+// what follows `v :=` where that begins with a reserved word, which ends at `after`
+fn action(
+    text: &Text,
+    at: usize,
+    key: Key,
+    after: usize,
+    tables: &mut Tables,
+    code: &mut Words,
+) -> Option<(Form, usize)>
+    requires begins { Found text.now at (lexeme text.now at) (Reserved key) after }
+    ensures same { code.new.code.ghost_name ≡ code.old.code.ghost_name }
+    ensures read { (v : Name) → Gives text.now (suc at) (λ f. Sets text.now v tables.old.vars tables.new.vars tables.old.props tables.new.props tables.old.calls tables.new.calls code.old.code.now code.new.code.now code.old.out code.new.out (command_number f.kind) f.place f.other f.second) (value_from v (lexeme text.now at).token text.now at) result }
+{
+    match key {
+        Key::Lookup => lookup_of(text, after, &mut tables.vars, &mut tables.props, code),
+        Key::Mutate => mutate_of(text, after, &mut tables.vars, &mut tables.props, code),
+        Key::Dispose => dispose_of(text, after, &mut tables.vars, code),
+        _ => plain(text, at, &mut tables.vars, code),
+    }
+}
+
 // what follows `v :=`
-pub fn value(text: &Text, at: usize, tables: &mut Tables, code: &mut Words) -> Option<(Form, usize)>
+pub fn value(
+    text: &Text,
+    at: usize,
+    tables: &mut Tables,
+    code: &mut Words,
+) -> Option<(Form, usize)>
     ensures same { code.new.code.ghost_name ≡ code.old.code.ghost_name }
     ensures read { (v : Name) → Gives text.now (suc at) (λ f. Sets text.now v tables.old.vars tables.new.vars tables.old.props tables.new.props tables.old.calls tables.new.calls code.old.code.now code.new.code.now code.old.out code.new.out (command_number f.kind) f.place f.other f.second) (value_from v (lexeme text.now at).token text.now at) result }
 {
     let t = text.token(at);
-    match t.kind {
-        words::NAME => named_form(text, at, &mut tables.vars, &mut tables.calls, code),
-        words::LOOKUP => lookup_of(text, t.next, &mut tables.vars, &mut tables.props, code),
-        words::MUTATE => mutate_of(text, t.next, &mut tables.vars, &mut tables.props, code),
-        words::DISPOSE => dispose_of(text, t.next, &mut tables.vars, code),
-        words::U_SITE => Some((symbol(CommandKind::USym, t.value), t.next)),
-        words::I_SITE => Some((symbol(CommandKind::ISym, t.value), t.next)),
+    match t.token {
+        Token::Name(_) => named_form(text, at, &mut tables.vars, &mut tables.calls, code),
+        Token::Reserved(key) => action(text, at, key, t.next, tables, code),
+        Token::USite(site) => Some((symbol(CommandKind::USym, site), t.next)),
+        Token::ISite(site) => Some((symbol(CommandKind::ISym, site), t.next)),
         _ => plain(text, at, &mut tables.vars, code),
     }
 }

@@ -1,17 +1,23 @@
 -- Reading what follows `v :=`, form by form: what its parts give, it gives. Assumes nothing.
-use Rattle.std.specs.Prelude.{ℕ, suc, ◌<◌, ◌≡◌, Bool, List, eqb, Option, None, Some}
+use Rattle.std.specs.Prelude.{ℕ, suc, ◌≢◌, ◌<◌, ◌≡◌, Bool, List, eqb, Option, None, Some}
 use Rattle.std.proofs.Math.Path.{refl, sym, ap, subst}
 use Rattle.std.proofs.Common.{◌∙◌, arith, ne_eqb}
 use Rattle.std.proofs.Math.Bool.{true, false}
-use Rattle.gil.specs.Text.{Key, k_ifgoto, k_return, k_fail, k_vanish, k_true, k_false, k_not, k_and, k_or, k_lookup, k_mutate, k_dispose, Token, Word, lexeme}
+use Rattle.gil.specs.Text as Text
+use Rattle.gil.specs.Text.{Word, lexeme}
 use Rattle.gil.specs.Tree.{Expr, var, Cmd, assign, u_sym, i_sym, Name}
 use Rattle.gil.specs.Reading.{Read, faulty, Reader, after, ◌>>=◌, ◌>>◌, done, nothing, token, ahead, is_mark, the_name, expr_key, expr_word, expr_from, expr_deep, expr, assignment, call_of, call_or_var, named, lookup_of, mutate_of, dispose_of, value_key, value_word, value_from}
-use Rattle.text_words.specs.Mirror.Kinds.{name_token, u_site_token, i_site_token, ended_token, lookup_token, mutate_token, dispose_token}
-use Rattle.text_words.specs.Mirror.Words.{key_kind, Stands, a_name, a_number, a_u_site, an_i_site, a_fault, a_key}
-use Rattle.text_tokens.specs.Mirror.Seen.{name_at, Seen, a_word, a_property, becoming, a_mark, the_end, Found}
+use Rattle.text_words.specs.declared.keys.Key.{Key}
+use Rattle.text_words.specs.declared.keys.Key.TheVariants as Key
+use Rattle.text_words.specs.Mirror.Keys.{key_is}
+use Rattle.text_tokens.specs.declared.tokens.Place.{Place}
+use Rattle.text_tokens.specs.declared.tokens.Token.{Token}
+use Rattle.text_tokens.specs.declared.tokens.Token.TheVariants as Token
+use Rattle.text_tokens.specs.Mirror.Seen.{name_at, Seen, a_name, a_number, a_key, a_u_site, an_i_site, a_fault, a_property, becoming, a_mark, the_end, Found}
 use Rattle.text_forms.specs.Mirror.Goes.{Goes, fails, Gives}
 use Rattle.text_forms.specs.Laws.Goes.{weaken, first, ended}
-use Rattle.text_forms.specs.Laws.Seeing.{reads, carries}
+use Rattle.text_forms.specs.Laws.Seeing.{seen-as, reads, carries}
+use Rattle.text_forms.specs.Steps.Exprs.{expr-reserved}
 use Rattle.text_values.specs.Mirror.{opening, Opens, broken, opened}
 use Rattle.text_values.specs.Laws.{ahead_step}
 
@@ -23,7 +29,7 @@ pub opens-first : {s : List ℕ} {at q n : ℕ} {B : Type 0} {E : Expr Name → 
 opens-first {s} {at} {next = next} {P} {o} f (opened {e} {p} h l w x y) k = subst (λ (r : Read (Cmd Name)). Goes s (suc at) next P r o) (sym (h f)) (weaken l (k e p x y))
 
 -- a name after `v :=`
-module _ {s : List ℕ} (v : Name) {at n place : ℕ} (gn : Gives s (suc at) (λ (p : ℕ) (w : Name). name_at s p ≡ w) (the_name s at) (Some (place, n))) where
+module _ {s : List ℕ} (v : Name) {at n : ℕ} {place : Place} (gn : Gives s (suc at) (λ (p : Place) (w : Name). name_at s p ≡ w) (the_name s at) (Some (place, n))) where
   next-is : (w : Name) (b : Bool) → is_mark 40 (lexeme s n).token ≡ b → (ahead >>= λ t. call_or_var v w (is_mark 40 t)) s n ≡ call_or_var v w b s n
   next-is w b e = ahead_step s n (λ t. call_or_var v w (is_mark 40 t)) ∙ ap (λ (c : Bool). call_or_var v w c s n) e
 
@@ -45,87 +51,99 @@ module _ {s : List ℕ} (v : Name) {at n place : ℕ} (gn : Gives s (suc at) (λ
       var-it : (w : Name) → call_or_var v w false s n ≡ done (assign v (var w)) s n
       var-it w = unfold call_or_var in refl
 
--- what follows `v :=`, by the kind of its first token
-unfoldable pub value_by_site : Name → ℕ → ℕ → Reader (Cmd Name)
-value_by_site v k u = elim (eqb k u_site_token) [ true ↦ token >> done (u_sym v u) | false ↦ elim (eqb k i_site_token) [ true ↦ token >> done (i_sym v u) | false ↦ assignment v ] ]
+-- what follows `v :=`, by its first token
+value-name : (v : Name) {s : List ℕ} {t : Text.Token} {p : Place} → Seen s t (Token.Name p) → value_from v t ≡ named v
+unfolding value_from value_word
+value-name v (a_name e) = ap (value_word v) e
 
-unfoldable pub value_by : Name → ℕ → ℕ → Reader (Cmd Name)
-value_by v k u =
-    elim (eqb k name_token) [
-      | true ↦ named v
-      | false ↦ elim (eqb k lookup_token) [
-        | true ↦ token >> lookup_of v
-        | false ↦ elim (eqb k mutate_token) [
-          | true ↦ token >> mutate_of v
-          | false ↦ elim (eqb k dispose_token) [ true ↦ token >> dispose_of v | false ↦ value_by_site v k u ]
-        ]
-      ]
-    ]
+value-reserved : (v : Name) {s : List ℕ} {t : Text.Token} {k : Key} → Seen s t (Token.Reserved k) → value_from v t ≡ value_key v (key_is k)
+unfolding value_from value_word
+value-reserved v (a_key e) = ap (value_word v) e
 
+value_u : (v : Name) {s : List ℕ} {t : Text.Token} {j : ℕ} → Seen s t (Token.USite j) → value_from v t ≡ token >> done (u_sym v j)
+unfolding value_from value_word
+value_u v (a_u_site e) = ap (value_word v) e
+
+value_i : (v : Name) {s : List ℕ} {t : Text.Token} {j : ℕ} → Seen s t (Token.ISite j) → value_from v t ≡ token >> done (i_sym v j)
+unfolding value_from value_word
+value_i v (an_i_site e) = ap (value_word v) e
+
+-- where no other form begins, an expression does, or a fault
 module _ (s : List ℕ) (at : ℕ) (v : Name) where
   no-expr : expr_from (expr_deep 7) (lexeme s at).token ≡ nothing → faulty ≡ assignment v s at
   unfolding assignment ◌>>=◌ after expr expr_deep token nothing
   no-expr e = sym (ap (λ (p : Reader (Expr Name)). after s (p s (lexeme s at).next) (λ a. done (assign v a))) e)
 
-  value-key : (u : ℕ) (k : Key) → (expr_key (expr_deep 7) k ≡ nothing → faulty ≡ assignment v s at) → value_key v k s at ≡ value_by v (key_kind k) u s at
-  unfolding value_key value_by value_by_site key_kind expr_key nothing
-  value-key u k_ifgoto h = h refl
-  value-key u k_return h = h refl
-  value-key u k_fail h = h refl
-  value-key u k_vanish h = h refl
-  value-key u k_true h = refl
-  value-key u k_false h = refl
-  value-key u k_not h = refl
-  value-key u k_and h = h refl
-  value-key u k_or h = h refl
-  value-key u k_lookup h = refl
-  value-key u k_mutate h = refl
-  value-key u k_dispose h = refl
+  value-other : {t : Text.Token} {k : Token} → Seen s t k → ((p : Place) → k ≢ Token.Name p) → ((w : Key) → k ≢ Token.Reserved w) → ((j : ℕ) → k ≢ Token.USite j) → ((j : ℕ) → k ≢ Token.ISite j) → (expr_from (expr_deep 7) t ≡ nothing → faulty ≡ assignment v s at) → value_from v t s at ≡ assignment v s at
+  unfolding value_from value_word expr_from expr_word nothing
+  value-other (a_name e) a b c d h = absurd (a _ refl)
+  value-other (a_number e) a b c d h = ap (λ (w : Word). value_word v w s at) e
+  value-other (a_key e) a b c d h = absurd (b _ refl)
+  value-other (a_u_site e) a b c d h = absurd (c _ refl)
+  value-other (an_i_site e) a b c d h = absurd (d _ refl)
+  value-other (a_fault e) a b c d h = ap (λ (w : Word). value_word v w s at) e ∙ h (ap (expr_word (expr_deep 7)) e)
+  value-other (a_property e) a b c d h = h refl
+  value-other becoming a b c d h = h refl
+  value-other (a_mark l) a b c d h = refl
+  value-other the_end a b c d h = h refl
 
-  value-word : {w : List ℕ} {place : ℕ} {t : Word} {k u : ℕ} → Stands w place t k u → (expr_word (expr_deep 7) t ≡ nothing → faulty ≡ assignment v s at) → value_word v t s at ≡ value_by v k u s at
-  unfolding value_word value_by value_by_site expr_word nothing
-  value-word (a_name l) h = refl
-  value-word a_number h = refl
-  value-word a_u_site h = refl
-  value-word an_i_site h = refl
-  value-word a_fault h = h refl
-  value-word {u = u} (a_key {k = k}) h = value-key u k h
+  value-key-other : (k : Key) → (k ≢ Key.Lookup) → (k ≢ Key.Mutate) → (k ≢ Key.Dispose) → (expr_key (expr_deep 7) (key_is k) ≡ nothing → faulty ≡ assignment v s at) → value_key v (key_is k) s at ≡ assignment v s at
+  unfolding value_key expr_key key_is nothing
+  value-key-other Key.Ifgoto a b c h = h refl
+  value-key-other Key.Return a b c h = h refl
+  value-key-other Key.Fail a b c h = h refl
+  value-key-other Key.Vanish a b c h = h refl
+  value-key-other Key.True a b c h = refl
+  value-key-other Key.False a b c h = refl
+  value-key-other Key.Not a b c h = refl
+  value-key-other Key.And a b c h = h refl
+  value-key-other Key.Or a b c h = h refl
+  value-key-other Key.Lookup a b c h = absurd (a refl)
+  value-key-other Key.Mutate a b c h = absurd (b refl)
+  value-key-other Key.Dispose a b c h = absurd (c refl)
 
-  value_low : (k u : ℕ) → k < 256 → value_by v k u ≡ assignment v
-  unfolding value_by value_by_site
-  value_low k u h =
-      rw (ne_eqb k name_token (λ z. omega arith), value_by)
-      (rw (ne_eqb k lookup_token (λ z. omega arith)) (rw (ne_eqb k mutate_token (λ z. omega arith)) (rw (ne_eqb k dispose_token (λ z. omega arith))
-      (rw (ne_eqb k u_site_token (λ z. omega arith), value_by_site) (rw (ne_eqb k i_site_token (λ z. omega arith)))))))
-
-  value-token : (t : Token) {k u : ℕ} → Seen s t k u → (expr_from (expr_deep 7) t ≡ nothing → faulty ≡ assignment v s at) → value_from v t s at ≡ value_by v k u s at
-  unfolding value_from value_by value_by_site expr_from nothing
-  value-token t (a_word p st) h = value-word st h
-  value-token t (a_property f) h = h refl
-  value-token t becoming h = h refl
-  value-token t {k} {u} (a_mark l) h = ap (λ (r : Reader (Cmd Name)). r s at) (sym (value_low k u l))
-  value-token t the_end h = h refl
-
-module _ {s : List ℕ} {at k u n : ℕ} (f : Found s at (lexeme s at) k u n) (v : Name) where
-  value-is : value_from v (lexeme s at).token s at ≡ value_by v k u s at
-  value-is = value-token s at v (lexeme s at).token f.seen (no-expr s at v)
-
+module _ {s : List ℕ} {at : ℕ} {t : Token} {n : ℕ} (f : Found s at (lexeme s at) t n) (v : Name) where
   -- a form that is read from here, and one that is read past the token
-  pub value-here : {B : Type 0} {next : B → ℕ} {P : B → Cmd Name → Type 0} {o : Option B} (j : ℕ) (r : Reader (Cmd Name)) → k ≡ j → value_by v j u ≡ r → Goes s (suc at) next P (r s at) o → Goes s (suc at) next P (value_from v (lexeme s at).token s at) o
-  value-here {next = next} {P} {o} j r e b g = subst (λ (x : Read (Cmd Name)). Goes s (suc at) next P x o) (sym (value-is ∙ ap (λ (i : ℕ). value_by v i u s at) e ∙ ap (λ (x : Reader (Cmd Name)). x s at) b)) g
+  here : {B : Type 0} {next : B → ℕ} {P : B → Cmd Name → Type 0} {o : Option B} (r : Reader (Cmd Name)) → value_from v (lexeme s at).token ≡ r → Goes s (suc at) next P (r s at) o → Goes s (suc at) next P (value_from v (lexeme s at).token s at) o
+  here {next = next} {P} {o} r b g = subst (λ (x : Reader (Cmd Name)). Goes s (suc at) next P (x s at) o) (sym b) g
 
   token-then : (r : Reader (Cmd Name)) → (token >> r) s at ≡ (token >>= λ t. r) s at
   unfolding token ◌>>◌ ◌>>=◌ after
   token-then r = refl
 
-  pub value-past : {B : Type 0} {next : B → ℕ} {P : B → Cmd Name → Type 0} {o : Option B} (j : ℕ) (r : Reader (Cmd Name)) → k ≡ j → (j ≡ ended_token → ⊥) → value_by v j u ≡ token >> r → Goes s (suc n) next P (r s n) o → Goes s (suc at) next P (value_from v (lexeme s at).token s at) o
-  value-past {next = next} {P} {o} j r e h b g = value-here j (token >> r) e b (subst (λ (x : Read (Cmd Name)). Goes s (suc at) next P x o) (sym (token-then r)) (carries f (λ t. r) r (λ z. h (sym e ∙ z)) refl g))
+  past-token : {B : Type 0} {next : B → ℕ} {P : B → Cmd Name → Type 0} {o : Option B} (r : Reader (Cmd Name)) → (t ≢ Token.Ended) → value_from v (lexeme s at).token ≡ token >> r → Goes s (suc n) next P (r s n) o → Goes s (suc at) next P (value_from v (lexeme s at).token s at) o
+  past-token {next = next} {P} {o} r h b g = here (token >> r) b (subst (λ (x : Read (Cmd Name)). Goes s (suc at) next P x o) (sym (token-then r)) (carries f (λ t. r) r h refl g))
 
-  pub value-done : {B : Type 0} (P : B → Cmd Name → Type 0) {b : B} (j : ℕ) (c : Cmd Name) → k ≡ j → (j ≡ ended_token → ⊥) → value_by v j u ≡ token >> done c → P b c → Gives s (suc at) P (value_from v (lexeme s at).token s at) (Some (b, n))
-  value-done P {b} j c e h d q = value-here j (token >> done c) e d (subst (λ (x : Read (Cmd Name)). Gives s (suc at) P x (Some (b, n))) (sym (token-then (done c))) (reads f (λ t. done c) c (b, n) refl (λ z. h (sym e ∙ z)) refl q))
+  site : {B : Type 0} (P : B → Cmd Name → Type 0) {b : B} (c : Cmd Name) → (t ≢ Token.Ended) → value_from v (lexeme s at).token ≡ token >> done c → P b c → Gives s (suc at) P (value_from v (lexeme s at).token s at) (Some (b, n))
+  site P {b} c h e q = here (token >> done c) e (subst (λ (x : Read (Cmd Name)). Gives s (suc at) P x (Some (b, n))) (sym (token-then (done c))) (reads f (λ t. done c) c (b, n) refl h refl q))
 
-  pub value-plain : {B : Type 0} {next : B → ℕ} {P : B → Cmd Name → Type 0} {o : Option B} → (k ≡ name_token → ⊥) → (k ≡ lookup_token → ⊥) → (k ≡ mutate_token → ⊥) → (k ≡ dispose_token → ⊥) → (k ≡ u_site_token → ⊥) → (k ≡ i_site_token → ⊥) → Goes s (suc at) next P (assignment v s at) o → Goes s (suc at) next P (value_from v (lexeme s at).token s at) o
-  value-plain a b c d e h g = value-here k (assignment v) refl none g
-    where
-      none : value_by v k u ≡ assignment v
-      none = unfold value_by value_by_site in rw (ne_eqb k name_token a, value_by) (rw (ne_eqb k lookup_token b) (rw (ne_eqb k mutate_token c) (rw (ne_eqb k dispose_token d) (rw (ne_eqb k u_site_token e, value_by_site) (rw (ne_eqb k i_site_token h))))))
+  pub value-named : {B : Type 0} {next : B → ℕ} {P : B → Cmd Name → Type 0} {o : Option B} (p : Place) → t ≡ Token.Name p → Goes s (suc at) next P (named v s at) o → Goes s (suc at) next P (value_from v (lexeme s at).token s at) o
+  value-named p e g = here (named v) (value-name v (seen-as f e)) g
+
+  pub value-lookup : {B : Type 0} {next : B → ℕ} {P : B → Cmd Name → Type 0} {o : Option B} (k : Key) → t ≡ Token.Reserved k → k ≡ Key.Lookup → Goes s (suc n) next P (lookup_of v s n) o → Goes s (suc at) next P (value_from v (lexeme s at).token s at) o
+  value-lookup k e z g = past-token (lookup_of v) (λ q. cc) (value-reserved v (seen-as f e) ∙ (unfold value_key key_is in rw z)) g
+
+  pub value-mutate : {B : Type 0} {next : B → ℕ} {P : B → Cmd Name → Type 0} {o : Option B} (k : Key) → t ≡ Token.Reserved k → k ≡ Key.Mutate → Goes s (suc n) next P (mutate_of v s n) o → Goes s (suc at) next P (value_from v (lexeme s at).token s at) o
+  value-mutate k e z g = past-token (mutate_of v) (λ q. cc) (value-reserved v (seen-as f e) ∙ (unfold value_key key_is in rw z)) g
+
+  pub value-dispose : {B : Type 0} {next : B → ℕ} {P : B → Cmd Name → Type 0} {o : Option B} (k : Key) → t ≡ Token.Reserved k → k ≡ Key.Dispose → Goes s (suc n) next P (dispose_of v s n) o → Goes s (suc at) next P (value_from v (lexeme s at).token s at) o
+  value-dispose k e z g = past-token (dispose_of v) (λ q. cc) (value-reserved v (seen-as f e) ∙ (unfold value_key key_is in rw z)) g
+
+  pub value-u-site : {B : Type 0} (P : B → Cmd Name → Type 0) {b : B} (j : ℕ) → t ≡ Token.USite j → P b (u_sym v j) → Gives s (suc at) P (value_from v (lexeme s at).token s at) (Some (b, n))
+  value-u-site P j e q = site P (u_sym v j) (λ z. cc) (value_u v (seen-as f e)) q
+
+  pub value-i-site : {B : Type 0} (P : B → Cmd Name → Type 0) {b : B} (j : ℕ) → t ≡ Token.ISite j → P b (i_sym v j) → Gives s (suc at) P (value_from v (lexeme s at).token s at) (Some (b, n))
+  value-i-site P j e q = site P (i_sym v j) (λ z. cc) (value_i v (seen-as f e)) q
+
+  plainly : {B : Type 0} {next : B → ℕ} {P : B → Cmd Name → Type 0} {o : Option B} → value_from v (lexeme s at).token s at ≡ assignment v s at → Goes s (suc at) next P (assignment v s at) o → Goes s (suc at) next P (value_from v (lexeme s at).token s at) o
+  plainly {next = next} {P} {o} e g = subst (λ (x : Read (Cmd Name)). Goes s (suc at) next P x o) (sym e) g
+
+  pub value-plain : {B : Type 0} {next : B → ℕ} {P : B → Cmd Name → Type 0} {o : Option B} → ((p : Place) → t ≢ Token.Name p) → ((w : Key) → t ≢ Token.Reserved w) → ((j : ℕ) → t ≢ Token.USite j) → ((j : ℕ) → t ≢ Token.ISite j) → Goes s (suc at) next P (assignment v s at) o → Goes s (suc at) next P (value_from v (lexeme s at).token s at) o
+  value-plain a b c d g = plainly (value-other s at v f.seen a b c d (no-expr s at v)) g
+
+  pub value-key-plain : {B : Type 0} {next : B → ℕ} {P : B → Cmd Name → Type 0} {o : Option B} (k : Key) → t ≡ Token.Reserved k → (k ≢ Key.Lookup) → (k ≢ Key.Mutate) → (k ≢ Key.Dispose) → Goes s (suc at) next P (assignment v s at) o → Goes s (suc at) next P (value_from v (lexeme s at).token s at) o
+  value-key-plain k e a b c g =
+      plainly
+      (ap (λ (x : Reader (Cmd Name)). x s at) (value-reserved v (seen-as f e))
+      ∙ value-key-other s at v k a b c (λ z. no-expr s at v (expr-reserved (expr_deep 7) (seen-as f e) ∙ z)))
+      g

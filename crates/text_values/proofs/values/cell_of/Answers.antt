@@ -1,9 +1,7 @@
 -- `values::cell_of` meets its contract. Assumes nothing.
-use Rattle.std.specs.Prelude.{ℕ, List}
-use Rattle.std.proofs.Common.{subst, ◌∙◌, arith}
+use Rattle.std.proofs.Common.{◌∙◌, arith}
 use Rattle.gil.specs.Reading.{◌>>=◌, ◌>>◌, expr}
-use Rattle.gil.specs.Numbers.{most_properties}
-use Rattle.text_names.specs.Mirror.Tables.{Interned}
+use Rattle.text_forms.specs.Laws.Wrote.{taken}
 use Rattle.text_forms.specs.Laws.Goes.{lost, past, was_read}
 use Rattle.text_values.specs.Mirror.{opening, broken, opened}
 use Rattle.text_values.proofs.values.cell_of.Goals as goal
@@ -36,4 +34,4 @@ returns-clause-read c =
     let e = was_read c.in_ok-at-3.ensures.read in
     let d = was_read c.in_ok-at-4.ensures in
     let p = was_read c.in_ok-property.ensures in
-    opened (λ f. past _ a ∙ past _ b ∙ past _ e ∙ past _ d ∙ past _ p) (omega (arith, a.on, b.on, e.on, d.on, p.on)) p.within e.has (subst (λ (w : List ℕ). Interned c.args.text.now most_properties c.args.props.now c.intern.new.names w c.intern.result) p.has c.intern.ensures.0)
+    opened (λ f. past _ a ∙ past _ b ∙ past _ e ∙ past _ d ∙ past _ p) (omega (arith, a.on, b.on, e.on, d.on, p.on)) p.within e.has (taken c.intern.ensures.interned c.unwrap_or-number.ensures p.has)
