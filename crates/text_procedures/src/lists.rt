@@ -171,8 +171,15 @@ pub fn procedures_of(
     let mut next = 0;
     let mut tally = NONE_YET;
     loop {
-        let (declared, after) =
-            procedure_of(text, next, tally.procs, tally.commands, tables, procs, code)?;
+        let (declared, after) = procedure_of(
+            text,
+            next,
+            tally.procs,
+            tally.commands,
+            tables,
+            procs,
+            code,
+        )?;
         next = after;
         tally = counted(tally, declared);
         if let Token::Ended = text.token(next).token {

@@ -40,12 +40,7 @@ pub struct Form {
 }
 
 // `v := e`
-fn plain(
-    text: &Text,
-    at: usize,
-    vars: &mut Names,
-    code: &mut Words,
-) -> Option<(Form, usize)>
+fn plain(text: &Text, at: usize, vars: &mut Names, code: &mut Words) -> Option<(Form, usize)>
     ensures same { code.new.code.ghost_name ≡ code.old.code.ghost_name }
     ensures read { (v : Name) (p k : Names) → Gives text.now (suc at) (λ f. Sets text.now v vars.old vars.new p p k k code.old.code.now code.new.code.now code.old.out code.new.out (command_number f.kind) f.place f.other f.second) (assignment v text.now at) result }
 {
@@ -158,12 +153,7 @@ fn mutate_of(
 }
 
 // `v := dispose(e)` past the action's name
-fn dispose_of(
-    text: &Text,
-    at: usize,
-    vars: &mut Names,
-    code: &mut Words,
-) -> Option<(Form, usize)>
+fn dispose_of(text: &Text, at: usize, vars: &mut Names, code: &mut Words) -> Option<(Form, usize)>
     ensures same { code.new.code.ghost_name ≡ code.old.code.ghost_name }
     ensures read { (v : Name) (p k : Names) → Gives text.now (suc at) (λ f. Sets text.now v vars.old vars.new p p k k code.old.code.now code.new.code.now code.old.out code.new.out (command_number f.kind) f.place f.other f.second) (dispose_of v text.now at) result }
 {
@@ -241,12 +231,7 @@ fn action(
 }
 
 // what follows `v :=`
-pub fn value(
-    text: &Text,
-    at: usize,
-    tables: &mut Tables,
-    code: &mut Words,
-) -> Option<(Form, usize)>
+pub fn value(text: &Text, at: usize, tables: &mut Tables, code: &mut Words) -> Option<(Form, usize)>
     ensures same { code.new.code.ghost_name ≡ code.old.code.ghost_name }
     ensures read { (v : Name) → Gives text.now (suc at) (λ f. Sets text.now v tables.old.vars tables.new.vars tables.old.props tables.new.props tables.old.calls tables.new.calls code.old.code.now code.new.code.now code.old.out code.new.out (command_number f.kind) f.place f.other f.second) (value_from v (lexeme text.now at).token text.now at) result }
 {
