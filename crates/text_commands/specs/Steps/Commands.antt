@@ -1,18 +1,15 @@
 -- Reading a command, form by form: what its parts give, it gives. Assumes nothing.
-use Rattle.std.specs.Prelude.{ℕ, suc, ◌≢◌, ◌≡◌, true, false, List, eqb, Option, None, Some}
+use Rattle.std.specs.Prelude.{ℕ, suc, ◌≢◌, ◌≡◌, List, Option, None, Some}
 use Rattle.std.proofs.Math.Path.{refl, ap}
-use Rattle.std.proofs.Common.{sym, ◌∙◌, subst, arith, ne_eqb}
+use Rattle.std.proofs.Common.{sym, ◌∙◌, subst, arith}
 use Rattle.gil.specs.Text as Text
 use Rattle.gil.specs.Text.{lexeme}
-use Rattle.gil.specs.Tree.{Expr, Cmd, ifgoto, return, fail, vanish, Name}
-use Rattle.gil.specs.Reading.{Read, Reader, after, ◌>>=◌, ◌>>◌, done, nothing, token, ahead, the_mark, the_becomes, the_number, as_word, expr_deep, expr, value_from, setting_of, jump_of, ending_of, command_key, command_word, command}
-use Rattle.gil.specs.Numbers.{most_depth}
+use Rattle.gil.specs.Tree.{Cmd, return, fail, vanish, Name}
+use Rattle.gil.specs.Reading.{Read, Reader, after, ◌>>=◌, ◌>>◌, done, nothing, token, ahead, the_mark, the_becomes, as_word, value_from, setting_of, jump_of, ending_of, command_key, command_word, command}
 use Rattle.text_words.specs.declared.keys.Key.{Key}
-use Rattle.text_words.specs.declared.keys.Key.TheVariants as Key
 use Rattle.text_words.specs.Mirror.Keys.{key_is}
 use Rattle.text_tokens.specs.declared.tokens.Place.{Place}
 use Rattle.text_tokens.specs.declared.tokens.Token.{Token}
-use Rattle.text_tokens.specs.declared.tokens.Token.TheVariants as Token
 use Rattle.text_tokens.specs.Mirror.Seen.{name_at, Seen, a_name, a_number, a_key, a_u_site, an_i_site, a_fault, a_property, becoming, a_mark, the_end, Found}
 use Rattle.text_forms.specs.Mirror.Goes.{Goes, Passes, Gives, anything}
 use Rattle.text_forms.specs.Laws.Goes.{weaken, first}

@@ -6,11 +6,9 @@ use Rattle.gil.specs.Text.{lexeme}
 use Rattle.gil.specs.Tree.{Expr, num, bool, var, neg, Name}
 use Rattle.gil.specs.Reading.{Read, Reader, ◌>>=◌, done, nothing, token, negation, bracketed, expr_key, expr_word, expr_from, expr_deep}
 use Rattle.text_words.specs.declared.keys.Key.{Key}
-use Rattle.text_words.specs.declared.keys.Key.TheVariants as Key
 use Rattle.text_words.specs.Mirror.Keys.{key_is}
 use Rattle.text_tokens.specs.declared.tokens.Place.{Place}
 use Rattle.text_tokens.specs.declared.tokens.Token.{Token}
-use Rattle.text_tokens.specs.declared.tokens.Token.TheVariants as Token
 use Rattle.text_tokens.specs.Mirror.Seen.{name_at, Seen, a_name, a_number, a_key, a_u_site, an_i_site, a_fault, a_property, becoming, a_mark, the_end, Found}
 use Rattle.text_forms.specs.Mirror.Goes.{Goes, Passes, fails}
 use Rattle.text_forms.specs.Laws.Goes.{stops, first, ended}

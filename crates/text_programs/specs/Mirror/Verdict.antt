@@ -1,5 +1,5 @@
 -- What the tests behind refusals 5 to 8 are asked of: the tables of names, counts and flags of a text that was read. Assumes nothing.
-use Rattle.std.specs.Prelude.{ℕ, ◌≡◌, Bool, not, ◌||◌, List, [], ◌∷◌, length}
+use Rattle.std.specs.Prelude.{ℕ, ◌≡◌, Bool, not, ◌||◌, List, [], length}
 use Rattle.gil.specs.Text.{bytes}
 use Rattle.gil.specs.Tree.{Proc, Name}
 use Rattle.gil.specs.Names.{any, gather, has, repeated, with_names, proc_names}

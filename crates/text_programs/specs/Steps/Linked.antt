@@ -1,11 +1,11 @@
 -- The loop that links, over stored procedures; linked, they are document 01's. Assumes nothing.
-use Prim.Native.Nat.{ℕ, zero, suc, ◌+◌, ◌-◌, ◌≤◌, ◌<◌, min}
+use Rattle.std.specs.Prelude.{ℕ, zero, suc, ◌+◌, ◌-◌, ◌≤◌, ◌<◌, min}
 use Rattle.std.specs.Prelude.{◌≡◌, ◌||◌, take, get_or, eqb}
 use Rattle.std.proofs.Math.Path.{refl, sym, ap}
 use Rattle.std.proofs.Common.{◌∙◌, add-one, eq-eqb, ne_eqb, get_or-set_same, get_or-set_other, set-set, get_or-take, take_all}
 use Rattle.std.proofs.Math.Bool.{Bool, true, false, not}
 use mathlib.Core.List.{List, [], ◌∷◌, ◌++◌, map, map-append}
-use native.Mathlib.Omega.{arith}
+use Rattle.std.proofs.Common.{arith}
 use Rattle.std.proofs.Math.ListN.{length, set, length-set, length-map, get_or-map}
 use Rattle.std.proofs.Math.Seq.{sets, length-sets}
 use Rattle.gil.specs.Text.{bytes, same}

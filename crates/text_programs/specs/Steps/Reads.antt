@@ -1,5 +1,5 @@
 -- Why what reading a text promises is kept. Assumes nothing.
-use Rattle.std.specs.Prelude.{ℕ, zero, suc, ◌≤◌, ◌<◌, min, ◌≡◌, Bool, length, take, get_or, set, replicate, Option, None, Some}
+use Rattle.std.specs.Prelude.{ℕ, zero, suc, ◌≤◌, ◌<◌, min, ◌≡◌, Bool, length, take, get_or, set, replicate, None, Some}
 use Rattle.std.proofs.Math.Path.{refl, ap}
 use Rattle.std.proofs.Common.{sym, ◌∙◌, subst, arith, take_all, get_or-take}
 use mathlib.Core.List.{List, [], ◌∷◌, ◌++◌, map, append-nil}
@@ -12,7 +12,6 @@ use Rattle.gil.specs.Names.{gather, place_of, with_names, distinct, properties, 
 use Rattle.gil.specs.Calls.{text_answer, check_call}
 use Rattle.gil.specs.Refusals.{refusal_number}
 use Rattle.gil.specs.declared.refusals.Refusal.{Refusal}
-use Rattle.gil.specs.declared.refusals.Refusal.TheVariants as Refusal
 use Rattle.gil.specs.Machine.{procedure_at}
 use Rattle.machine_code.specs.Code.{cmd_nodes, program_words, code_words, nodes_room}
 use Rattle.machine_code.specs.WellFormed.{Each, none, more}

@@ -1,5 +1,5 @@
 -- The refusal of a text from what was counted and flagged while it was read. Assumes nothing.
-use Rattle.std.specs.Prelude.{ℕ, ◌+◌, ◌≤◌, ◌<◌, min, ◌≡◌, Bool, ◌||◌, take, Option, None, Some, unwrap_or, is_some}
+use Rattle.std.specs.Prelude.{ℕ, ◌≤◌, ◌<◌, min, ◌≡◌, Bool, ◌||◌, take, Option, None, Some, unwrap_or, is_some}
 use Rattle.std.specs.List.{list_any}
 use Rattle.std.proofs.Math.Path.{refl, sym, ap}
 use Rattle.std.proofs.Common.{◌∙◌, subst, arith}
@@ -11,14 +11,14 @@ use Rattle.std.proofs.Math.Seq.{take_all}
 use Rattle.std.proofs.Math.Dec.{ltb}
 use Rattle.gil.specs.Text.{bytes}
 use Rattle.gil.specs.Tree.{Proc, Name}
-use Rattle.gil.specs.Reading.{Read, read, procedures}
+use Rattle.gil.specs.Reading.{read, procedures}
 use Rattle.gil.specs.Names.{any, gather, has, place_of, with_names, distinct, repeated, proc_names, properties, over_limits, wrong_names, wrong_jump, wrong_end, accepted, refused_if, number_program, tested, check_text}
 use Rattle.gil.specs.Calls.{text_answer, check_call}
-use Rattle.gil.specs.Numbers.{for_end, for_form, for_jump, for_length, for_limits, for_names, most_bytes, most_commands, most_procedures, most_properties, most_variables}
+use Rattle.gil.specs.Numbers.{for_end, for_jump, for_length, for_limits, for_names, most_bytes, most_commands, most_procedures, most_properties, most_variables}
 use Rattle.text_tokens.specs.Mirror.Seen.{name_at}
 use Rattle.text_names.specs.declared.Names.{Names}
 use Rattle.text_names.specs.Mirror.Tables.{Kept, known, FoundIn}
-use Rattle.text_names.specs.Laws.Lists.{place-le, has-place}
+use Rattle.text_names.specs.Laws.Lists.{has-place}
 use Rattle.text_names.specs.Laws.Distinct.{any-with_names, distinct-is, repeated-is, few-distinct}
 use Rattle.text_names.specs.Laws.Tables.{cut-tells}
 use Rattle.text_procedures.specs.Mirror.Procedures.{props_of, calls_of, Tells}

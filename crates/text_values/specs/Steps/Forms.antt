@@ -1,18 +1,16 @@
 -- Reading what follows `v :=`, form by form: what its parts give, it gives. Assumes nothing.
-use Rattle.std.specs.Prelude.{ℕ, suc, ◌≢◌, ◌<◌, ◌≡◌, Bool, List, eqb, Option, None, Some}
+use Rattle.std.specs.Prelude.{ℕ, suc, ◌≢◌, ◌≡◌, Bool, List, Option, None, Some}
 use Rattle.std.proofs.Math.Path.{refl, sym, ap, subst}
-use Rattle.std.proofs.Common.{◌∙◌, arith, ne_eqb}
+use Rattle.std.proofs.Common.{◌∙◌, arith}
 use Rattle.std.proofs.Math.Bool.{true, false}
 use Rattle.gil.specs.Text as Text
 use Rattle.gil.specs.Text.{Word, lexeme}
 use Rattle.gil.specs.Tree.{Expr, var, Cmd, assign, u_sym, i_sym, Name}
 use Rattle.gil.specs.Reading.{Read, faulty, Reader, after, ◌>>=◌, ◌>>◌, done, nothing, token, ahead, is_mark, the_name, expr_key, expr_word, expr_from, expr_deep, expr, assignment, call_of, call_or_var, named, lookup_of, mutate_of, dispose_of, value_key, value_word, value_from}
 use Rattle.text_words.specs.declared.keys.Key.{Key}
-use Rattle.text_words.specs.declared.keys.Key.TheVariants as Key
 use Rattle.text_words.specs.Mirror.Keys.{key_is}
 use Rattle.text_tokens.specs.declared.tokens.Place.{Place}
 use Rattle.text_tokens.specs.declared.tokens.Token.{Token}
-use Rattle.text_tokens.specs.declared.tokens.Token.TheVariants as Token
 use Rattle.text_tokens.specs.Mirror.Seen.{name_at, Seen, a_name, a_number, a_key, a_u_site, an_i_site, a_fault, a_property, becoming, a_mark, the_end, Found}
 use Rattle.text_forms.specs.Mirror.Goes.{Goes, fails, Gives}
 use Rattle.text_forms.specs.Laws.Goes.{weaken, first, ended}

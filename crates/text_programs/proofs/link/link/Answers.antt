@@ -1,5 +1,5 @@
 -- `link::link` meets its contract. Assumes nothing.
-use Rattle.std.proofs.Common.{◌∙◌, arith}
+use Rattle.std.proofs.Common.{◌∙◌}
 use Rattle.text_programs.specs.Mirror.Linked.{callee_in}
 use Rattle.text_programs.specs.Steps.Linked.{link_more, link_end, links-all}
 use Rattle.text_programs.proofs.link.link.Goals as goal
