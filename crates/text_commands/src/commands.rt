@@ -76,7 +76,7 @@ fn jumping(
     let command = Command {
         kind: CommandKind::Jump,
         variable: to,
-        place: place,
+        place,
         other: 0,
         second: 0,
     };
@@ -103,9 +103,9 @@ fn ending(
     let place = code.out as u32;
     let at = exprs::expr(text, at, DEPTH, vars, code)?;
     let command = Command {
-        kind: kind,
+        kind,
         variable: 0,
-        place: place,
+        place,
         other: 0,
         second: 0,
     };

@@ -1,4 +1,5 @@
-// The small forms: a given mark, `:=`, a name, a property, a number, an operator.
+// The small forms: a given mark, `:=`, a name, a property, a number, an operator. They are taken in where they are called: an `Option` of a pair
+// would else go through memory, and a text's check take 5 % longer (docs/DESIGN-PASS.md).
 ghost use Rattle.std.specs.Prelude.{◌≡◌, suc, true};
 ghost use Rattle.gil.specs.Reading.{the_mark, the_becomes, the_name, the_property, the_number, the_op, op_mark, op_key};
 ghost use Rattle.text_words.specs.Mirror.Keys.{key_is};
@@ -14,6 +15,7 @@ use text_tokens::tokens::{Place, Token};
 use text_words::keys::Key;
 
 // the place after a mark that no other token starts with
+#[inline(always)]
 pub fn mark(text: &Text, at: usize, b: u8) -> Option<usize>
     requires { lone b ≡ true }
     ensures { Passes text.now (suc at) anything (the_mark b text.now at) result }
@@ -21,6 +23,7 @@ pub fn mark(text: &Text, at: usize, b: u8) -> Option<usize>
     text.past_mark(at, b)
 }
 
+#[inline(always)]
 pub fn becomes(text: &Text, at: usize) -> Option<usize>
     ensures { Passes text.now (suc at) anything (the_becomes text.now at) result }
 {
@@ -31,6 +34,7 @@ pub fn becomes(text: &Text, at: usize) -> Option<usize>
     }
 }
 
+#[inline(always)]
 pub fn name(text: &Text, at: usize) -> Option<(Place, usize)>
     ensures { Gives text.now (suc at) (λ p w. name_at text.now p ≡ w) (the_name text.now at) result }
 {
@@ -41,6 +45,7 @@ pub fn name(text: &Text, at: usize) -> Option<(Place, usize)>
     }
 }
 
+#[inline(always)]
 pub fn property(text: &Text, at: usize) -> Option<(Place, usize)>
     ensures { Gives text.now (suc at) (λ p w. name_at text.now p ≡ w) (the_property text.now at) result }
 {
@@ -51,6 +56,7 @@ pub fn property(text: &Text, at: usize) -> Option<(Place, usize)>
     }
 }
 
+#[inline(always)]
 pub fn number(text: &Text, at: usize) -> Option<(u32, usize)>
     ensures { Gives text.now (suc at) (λ m n. m ≡ n) (the_number text.now at) result }
 {
@@ -62,6 +68,7 @@ pub fn number(text: &Text, at: usize) -> Option<(u32, usize)>
 }
 
 // the operator that a mark is, and that a reserved word is
+#[inline(always)]
 fn mark_operator(b: u8) -> Option<Operator>
     ensures { ReadsOp (op_mark b) result }
 {
@@ -74,6 +81,7 @@ fn mark_operator(b: u8) -> Option<Operator>
     }
 }
 
+#[inline(always)]
 fn key_operator(key: Key) -> Option<Operator>
     ensures { ReadsOp (op_key (key_is key)) result }
 {
@@ -85,6 +93,7 @@ fn key_operator(key: Key) -> Option<Operator>
 }
 
 // the operator that a token is
+#[inline(always)]
 fn operator_of(token: Token) -> Option<Operator>
     ensures { OperatorOf token result }
 {
@@ -95,6 +104,7 @@ fn operator_of(token: Token) -> Option<Operator>
     }
 }
 
+#[inline(always)]
 pub fn operator(text: &Text, at: usize) -> Option<(Operator, usize)>
     ensures { Gives text.now (suc at) (λ o op. op_of o ≡ op) (the_op text.now at) result }
 {

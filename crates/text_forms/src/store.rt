@@ -33,6 +33,7 @@ fn kind_word(kind: CommandKind) -> u32
 }
 
 impl<'a> Words<'a> {
+    #[inline(always)]
     fn store(&mut self, at: usize, v: u32)
         ensures same { self.new.code.ghost_name ≡ self.old.code.ghost_name }
         ensures words { self.new.code.now ≡ put self.old.code.now at v }
@@ -44,6 +45,7 @@ impl<'a> Words<'a> {
     }
 
     // leaves a word for the next node, as long as there is room, and says where
+    #[inline(always)]
     pub fn leave(&mut self) -> usize
         ensures same { self.new.code.ghost_name ≡ self.old.code.ghost_name }
         ensures words { self.new.code.now ≡ self.old.code.now }
@@ -57,6 +59,7 @@ impl<'a> Words<'a> {
     }
 
     // the next node
+    #[inline(always)]
     pub fn push(&mut self, node: u32)
         ensures same { self.new.code.ghost_name ≡ self.old.code.ghost_name }
         ensures words { self.new.code.now ≡ put self.old.code.now self.old.out node }
@@ -67,6 +70,7 @@ impl<'a> Words<'a> {
     }
 
     // an operator's node at the word left for it, once its first operand stands behind that: how many words this takes stands in the node
+    #[inline(always)]
     pub fn operate(&mut self, at: usize, operator: Operator)
         requires { at ≤ code_words }
         ensures same { self.new.code.ghost_name ≡ self.old.code.ghost_name }
@@ -78,6 +82,7 @@ impl<'a> Words<'a> {
     }
 
     // command n of all, if it is one of the first 512
+    #[inline(always)]
     pub fn command(&mut self, n: usize, c: Command)
         ensures same { self.new.code.ghost_name ≡ self.old.code.ghost_name }
         ensures words { self.new.code.now ≡ put_command self.old.code.now n (command_number c.kind) c.variable c.place c.other c.second }
@@ -94,6 +99,7 @@ impl<'a> Words<'a> {
     }
 
     // the three words of procedure n, if it is one of the first 16
+    #[inline(always)]
     pub fn procedure(&mut self, n: usize, first: u32, variables: u32, commands: u32)
         ensures same { self.new.code.ghost_name ≡ self.old.code.ghost_name }
         ensures words { self.new.code.now ≡ put_procedure self.old.code.now n first variables commands }

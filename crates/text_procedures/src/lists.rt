@@ -5,11 +5,10 @@ ghost use Rattle.text_commands.specs.Mirror.{one_past};
 ghost use Rattle.text_procedures.specs.Mirror.Lists.{Lists};
 ghost use Rattle.text_procedures.specs.Mirror.Procedures.{Declares, Tells, Whole};
 ghost use Rattle.gil.specs.Reading.{commands, procedure, procedures};
-ghost use Rattle.machine_code.specs.Code.{nodes_at};
 ghost use Rattle.gil.specs.Numbers.{most_bytes};
 
 use gil::limits::MOST_VARIABLES;
-use machine_code::wide;
+use machine_code::{NODES_AT, wide};
 use text_commands::commands;
 use text_forms::forms;
 use text_forms::store::Words;
@@ -53,6 +52,7 @@ fn body_of(
     let mut next = at;
     let mut count: usize = 0;
     let mut jump: Option<u32> = None;
+    // to the bracket: no index is counted, a token ends the list
     loop {
         let (step, after) = commands::read_command(text, next, first + count, tables, code)?;
         next = after;
@@ -60,8 +60,8 @@ fn body_of(
         jump = highest(jump, step.jump);
         if text.past_mark(next, b'}').is_some() {
             let body = Body {
-                count: count,
-                jump: jump,
+                count,
+                jump,
                 ends: step.ends,
             };
             return Some((body, next));
@@ -163,13 +163,14 @@ pub fn procedures_of(
     procs: &mut Names,
     code: &mut Words,
 ) -> Option<Tally>
-    requires { code.old.out ≡ nodes_at }
     ensures same { code.new.code.ghost_name ≡ code.old.code.ghost_name }
     ensures read { Whole (λ t. Tells text.now tables.old.props tables.new.props tables.old.calls tables.new.calls procs.old procs.new code.old.code.now code.new.code.now t.procs t.commands t.wide t.past t.unended) (procedures text.now) result }
 {
     text.len();
+    code.out = NODES_AT;
     let mut next = 0;
     let mut tally = NONE_YET;
+    // to the end of the text: no index is counted, a token ends the list
     loop {
         let (declared, after) = procedure_of(
             text,

@@ -108,7 +108,7 @@ fn procedures(
     ensures { Whole (λ t. Tells text.now tables.old.props tables.new.props tables.old.calls tables.new.calls names.old names.new code.old code.new t.procs t.commands t.wide t.past t.unended) (procedures text.now) result }
 {
     let mut words = Words {
-        code: code,
+        code,
         out: NODES_AT,
     };
     lists::procedures_of(text, tables, names, &mut words)

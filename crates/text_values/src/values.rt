@@ -48,7 +48,7 @@ fn plain(text: &Text, at: usize, vars: &mut Names, code: &mut Words) -> Option<(
     let at = exprs::expr(text, at, DEPTH, vars, code)?;
     let form = Form {
         kind: CommandKind::Assign,
-        place: place,
+        place,
         other: 0,
         second: 0,
     };
@@ -74,7 +74,7 @@ fn call_of(
     let at = forms::mark(text, at, b')')?;
     let form = Form {
         kind: CommandKind::Call,
-        place: place,
+        place,
         other: callee as u32,
         second: 0,
     };
@@ -118,7 +118,7 @@ fn lookup_of(
     let at = forms::mark(text, at, b')')?;
     let form = Form {
         kind: CommandKind::Lookup,
-        place: place,
+        place,
         other: property,
         second: 0,
     };
@@ -145,9 +145,9 @@ fn mutate_of(
     let at = forms::mark(text, at, b')')?;
     let form = Form {
         kind: CommandKind::Mutate,
-        place: place,
+        place,
         other: property,
-        second: second,
+        second,
     };
     Some((form, at))
 }
@@ -163,7 +163,7 @@ fn dispose_of(text: &Text, at: usize, vars: &mut Names, code: &mut Words) -> Opt
     let at = forms::mark(text, at, b')')?;
     let form = Form {
         kind: CommandKind::Dispose,
-        place: place,
+        place,
         other: 0,
         second: 0,
     };
@@ -190,7 +190,7 @@ fn named_form(
     code.push(VARIABLE + x as u32);
     let form = Form {
         kind: CommandKind::Assign,
-        place: place,
+        place,
         other: 0,
         second: 0,
     };
@@ -202,7 +202,7 @@ fn symbol(kind: CommandKind, site: u32) -> Form
     ensures { (result.kind ≡ kind) × (result.place ≡ 0) × (result.other ≡ site) × (result.second ≡ 0) }
 {
     Form {
-        kind: kind,
+        kind,
         place: 0,
         other: site,
         second: 0,

@@ -6,7 +6,7 @@ use Rattle.text_procedures.specs.Steps.Procedures.{round_none, round_fault, roun
 use Rattle.text_procedures.proofs.lists.procedures_of.Goals as goal
 
 pub loop-declared-init : goal.loop-declared-init
-loop-declared-init c = rw c.requires (round_none, refl, omega arith)
+loop-declared-init c = (round_none, refl, omega arith)
 
 pub returns-in_err-declared-clause-read : goal.returns-in_err-declared-clause-read
 returns-in_err-declared-clause-read c = rw c.from_residual.ensures (round_fault c.loop-declared.invariant.0 c.in_err-declared.ensures.read)
