@@ -1,13 +1,13 @@
 -- What follows where a call goes on or refuses: the laws that the calls' proofs cite. Assumes nothing.
-use Rattle.std.specs.Prelude.{ℕ, zero, suc, ◌≤◌, ◌<◌, ◌≡◌, refl, Bool, true, false, ◌||◌, List, [], ◌∷◌, length, get_or, ltb, eqb}
-use Rattle.std.proofs.Common.{arith, eqb-true, ltb-false}
+use Rattle.std.specs.Prelude.{ℕ, zero, suc, ◌≤◌, ◌<◌, ◌≡◌, refl, Bool, true, false, ◌||◌, List, [], ◌∷◌, length, get_or, ltb, eqb, Result, Ok, Err}
+use Rattle.std.proofs.Common.{arith, sym, ap, ◌∙◌, eqb-true, ltb-false}
 use Rattle.std.proofs.lemmas.Bool.{not-false}
 use Rattle.gil.specs.Tree.{Proc, Name}
 use Rattle.gil.specs.Reading.{Read, faulty, read, procedures}
 use Rattle.gil.specs.Names.{Program, Checked, refused, accepted, check_text, tested, refused_if, over_limits, wrong_names, wrong_jump, wrong_end}
 use Rattle.gil.specs.Numbers.{most_bytes, for_length, for_form, for_limits, for_names, for_jump, for_end, table_length, pool_length, inputs_length}
 use Rattle.gil.specs.Layout.{input_words}
-use Rattle.gil.specs.Refusals.{refusal_number}
+use Rattle.gil.specs.Refusals.{refusal_number, answer_of}
 use Rattle.gil.specs.declared.refusals.Refusal.{Refusal}
 use Rattle.gil.specs.declared.refusals.Refusal.TheVariants.{Budgets, Lists, Length, Form, Limits, Names, Jump, End, Rows, Terms}
 use Rattle.gil.specs.Calls.{first_of, wrong_inputs, text_answer, check_call}
@@ -64,6 +64,12 @@ numbered Jump e = omega arith
 numbered End e = omega arith
 numbered Rows e = omega arith
 numbered Terms e = omega arith
+
+pub not_nought : {r : Result (Unit {0}) Refusal} {e : Refusal} → r ≡ Err e → answer_of r ≡ 0 → ⊥
+not_nought {e = e} h z = numbered e (sym (ap answer_of h) ∙ z)
+
+pub nought : {r : Result (Unit {0}) Refusal} {u : Unit {0}} → r ≡ Ok u → answer_of r ≡ 0
+nought h = ap answer_of h
 
 -- where a call goes on, nothing was refused, and it has its program's words
 pub record GoesOn (budgets lists : Bool) (text code : List ℕ) : Type 0 where

@@ -2,6 +2,9 @@
 // nothing.
 #![tactic(auto)]
 
+ghost use Rattle.std.specs.Prelude.{◌≡◌, ◌||◌, ltb};
+ghost use Rattle.gil.specs.Numbers.{answer_length};
+ghost use Rattle.gil.specs.Calls.{wrong_inputs};
 ghost use Rattle.gil.specs.Promises.{Promise, plain_run};
 ghost use Rattle.gil.specs.Refusals.{answer_of};
 
@@ -10,6 +13,13 @@ use gil::layout::ANSWER_BYTES;
 use gil::refusals::Refusal;
 use machine_code::CODE_WORDS;
 use table_plain_run as run;
+
+// 2: "a lent buffer is shorter than the call needs, or the input list is not sixteen long", by the answer's length
+fn wrong_lists(inputs: &[u8], answer: usize) -> bool
+    ensures { result ≡ wrong_inputs inputs.now || ltb answer answer_length }
+{
+    given::wrong_inputs(inputs) || answer < ANSWER_BYTES
+}
 
 pub fn plain_run(
     text: &[u8],
@@ -20,7 +30,7 @@ pub fn plain_run(
     ensures { Promise (plain_run text.now inputs.now steps answer.old) (record { returns = answer_of result; answer = answer.new }) }
 {
     let budget = given::wrong_budget(steps);
-    let lists = given::wrong_inputs(inputs) || answer.len() < ANSWER_BYTES;
+    let lists = wrong_lists(inputs, answer.len());
     let mut code = [0u32; CODE_WORDS];
     given::begin(budget, lists, text, &mut code)?;
     let words = given::input_words(inputs);
