@@ -1,15 +1,14 @@
 -- What follows where a call goes on or refuses: the laws that the calls' proofs cite. Assumes nothing.
 use Rattle.std.specs.Prelude.{ℕ, zero, suc, ◌≤◌, ◌<◌, ◌≡◌, refl, Bool, true, false, ◌||◌, List, [], ◌∷◌, length, get_or, ltb, eqb, Result, Ok, Err}
-use Rattle.std.proofs.Common.{arith, sym, ap, ◌∙◌, eqb-true, ltb-false}
+use Rattle.std.proofs.Common.{arith, ap, eqb-true, ltb-false}
 use Rattle.std.proofs.lemmas.Bool.{not-false}
 use Rattle.gil.specs.Tree.{Proc, Name}
 use Rattle.gil.specs.Reading.{Read, faulty, read, procedures}
 use Rattle.gil.specs.Names.{Program, Checked, refused, accepted, check_text, tested, refused_if, over_limits, wrong_names, wrong_jump, wrong_end}
 use Rattle.gil.specs.Numbers.{most_bytes, for_length, for_form, for_limits, for_names, for_jump, for_end, table_length, pool_length, inputs_length}
 use Rattle.gil.specs.Layout.{input_words}
-use Rattle.gil.specs.Refusals.{refusal_number, answer_of}
+use Rattle.gil.specs.Refusals.{answer_of, numbered}
 use Rattle.gil.specs.declared.refusals.Refusal.{Refusal}
-use Rattle.gil.specs.declared.refusals.Refusal.TheVariants.{Budgets, Lists, Length, Form, Limits, Names, Jump, End, Rows, Terms}
 use Rattle.gil.specs.Calls.{first_of, wrong_inputs, text_answer, check_call}
 use Rattle.gil.proofs.Theory.Tests.{chosen}
 use Rattle.machine_code.specs.Code.{program_words}
@@ -52,21 +51,9 @@ judged text = go (check_text text) refl (check-by text)
     go (refused n) e (a_refusal h) = turned_down e (λ z. omega arith)
     go (accepted p) e a_program = taken_up p e
 
--- no refusal has the number of success
-pub numbered : (r : Refusal) → refusal_number r ≡ 0 → ⊥
-numbered Budgets e = omega arith
-numbered Lists e = omega arith
-numbered Length e = omega arith
-numbered Form e = omega arith
-numbered Limits e = omega arith
-numbered Names e = omega arith
-numbered Jump e = omega arith
-numbered End e = omega arith
-numbered Rows e = omega arith
-numbered Terms e = omega arith
-
+-- what a refusal and a success are as numbers
 pub not_nought : {r : Result (Unit {0}) Refusal} {e : Refusal} → r ≡ Err e → answer_of r ≡ 0 → ⊥
-not_nought {e = e} h z = numbered e (sym (ap answer_of h) ∙ z)
+not_nought {e = e} h z = numbered e h z
 
 pub nought : {r : Result (Unit {0}) Refusal} {u : Unit {0}} → r ≡ Ok u → answer_of r ≡ 0
 nought h = ap answer_of h

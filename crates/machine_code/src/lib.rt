@@ -20,29 +20,6 @@ pub const COMMAND_WORDS: usize = 5;
 
 pub const NODES_AT: usize = 2610;
 
-// A command's kind is its number in document 01's table.
-pub const ASSIGN_KIND: u32 = 1;
-
-pub const JUMP_KIND: u32 = 2;
-
-pub const CALL_KIND: u32 = 3;
-
-pub const LOOKUP_KIND: u32 = 4;
-
-pub const MUTATE_KIND: u32 = 5;
-
-pub const DISPOSE_KIND: u32 = 6;
-
-pub const USYM_KIND: u32 = 7;
-
-pub const ISYM_KIND: u32 = 8;
-
-pub const RETURN_KIND: u32 = 9;
-
-pub const FAIL_KIND: u32 = 10;
-
-pub const VANISH_KIND: u32 = 11;
-
 // A node is its kind times KIND and a number below KIND; of kind 0 it is that number.
 pub const KIND: u32 = 268435456;
 
@@ -64,8 +41,6 @@ pub const EQUAL_NODE: u32 = 7;
 pub const LESS_NODE: u32 = 8;
 
 pub const AND_NODE: u32 = 9;
-
-pub const OR_NODE: u32 = 10;
 
 // The first node of a kind: a truth, a variable, a number in the next word, `not`
 pub const TRUTH: u32 = TRUTH_NODE * KIND;

@@ -7,8 +7,7 @@ use Rattle.gil.specs.Machine as Machine
 use Rattle.gil.specs.Numbers.{for_terms}
 use Rattle.gil.specs.Refusals.{answer_of}
 use Rattle.gil.specs.declared.refusals.Refusal.{Refusal}
-use Rattle.gil.specs.declared.refusals.Refusal.TheVariants as Refusals
-use Rattle.gil.specs.declared.refusals.Refusal.TheVariants.{Lists, Length, Form, Limits, Names, Jump, End, Rows, Terms}
+use Rattle.gil.specs.declared.refusals.Refusal.TheVariants.{Terms}
 use Rattle.machine_code.specs.Mirror.{if?}
 use Rattle.machine_commands.specs.declared.Control.{Control}
 use Rattle.machine_commands.specs.declared.Next.{Next}
@@ -157,19 +156,3 @@ module _ (code : List ℕ) (budgets : Budgets) (from : Branch) (store : List ℕ
       pub both : {o : Reached} → r ≡ 0 → o ≡ walks_in code budgets q store' cells' rows₁ table₁ pool₁ count₁ → o ≡ whole
       unfolding after_first
       both z eo = eo ∙ (simp (eq-eqb r 0 z) at split)
-
--- a refusal has a number, and nothing else has none
-pub numbered : {r : Result (Unit {0}) Refusal} (x : Refusal) → r ≡ Err x → answer_of r ≡ 0 → ⊥
-numbered x e z = some x (rw e at z)
-  where
-    some : (x : Refusal) → answer_of (Err x) ≡ 0 → ⊥
-    some Refusals.Budgets z = absurd (omega arith)
-    some Lists z = absurd (omega arith)
-    some Length z = absurd (omega arith)
-    some Form z = absurd (omega arith)
-    some Limits z = absurd (omega arith)
-    some Names z = absurd (omega arith)
-    some Jump z = absurd (omega arith)
-    some End z = absurd (omega arith)
-    some Rows z = absurd (omega arith)
-    some Terms z = absurd (omega arith)

@@ -4,7 +4,8 @@ ghost use Rattle.std.specs.Prelude.{◌<◌};
 
 use crate::given::{LARGE, SMALL, decimal, file};
 use gil::layout::{POOL_BYTES, TABLE_BYTES};
-use gil::numbers::{FIRST_ROW, FOR_ROWS};
+use gil::numbers::FIRST_ROW;
+use gil::refusals::Refusal;
 use std::io;
 use std::io::Write;
 use std::rt::{Env, Files};
@@ -13,7 +14,7 @@ use vectors_shown::tables::Table;
 
 // The memory after a refusal: all zero in the needed part after 9 and 10, and else untouched.
 fn refused<W: Write>(out: &mut W, code: u32, lent: Table) -> io::Result<()> {
-    if code < FOR_ROWS {
+    if code < Refusal::Rows as u32 {
         if !kept(lent.table, 0) {
             write!(out, ", table TOUCHED")?;
         }

@@ -1,7 +1,7 @@
 -- `walk::explore` meets its contract. Assumes nothing.
 use Rattle.std.proofs.Common.{◌∙◌, length, refl, rules, arith}
 use Rattle.table_walk.specs.Mirror.{reached}
-use Rattle.table_walk.specs.Steps.{numbered}
+use Rattle.gil.specs.Refusals.{numbered}
 use Rattle.table_explore.specs.Steps.{from-begin, ends-refused, ends_well, zeroed}
 use Rattle.table_explore.proofs.explore.Goals as goal
 

@@ -1,7 +1,7 @@
 -- `walk` meets its contract, the branches that are left falling at each fork. Assumes nothing.
 use Rattle.std.proofs.Common.{◌≡◌, ap, rules, arith}
-use Rattle.gil.specs.Refusals.{answer_of}
-use Rattle.table_walk.specs.Steps.{no-room, free, a-row, split_is, first-refused, both, numbered, next_branches}
+use Rattle.gil.specs.Refusals.{answer_of, numbered}
+use Rattle.table_walk.specs.Steps.{no-room, free, a-row, split_is, first-refused, both, next_branches}
 use Rattle.table_walk.proofs.+walk.Goals as goal
 
 pub returns-in_err-room : goal.returns-in_err-room
