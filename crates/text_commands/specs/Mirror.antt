@@ -1,17 +1,23 @@
 -- What each function answers, in the code's own terms: what reading a command does to the tables of names and to the words of the program. Assumes nothing.
-use Rattle.std.specs.Prelude.{ℕ, ◌+◌, ◌≤◌, ◌<◌, ◌≡◌, Bool, List, ◌++◌, length}
+use Rattle.std.specs.Prelude.{ℕ, suc, ◌+◌, ◌≤◌, ◌<◌, ◌≡◌, Bool, List, ◌++◌, length, Option, None, Some}
 use Rattle.std.proofs.lemmas.List.Edits.{sets}
 use Rattle.gil.specs.Tree.{Expr, Cmd, return, fail, Name}
 use Rattle.gil.specs.Names.{cmd_vars, cmd_properties, cmd_calls, is_end, with_names}
 use Rattle.machine_code.specs.Code.{cmd_nodes, cmd_words, code_words, fail_kind, return_kind, command_at}
 use Rattle.machine_code.proofs.Accepted.Sizes.{cmd_size}
 use Rattle.gil.specs.Numbers.{most_commands, most_procedures, most_properties, most_variables}
+use Rattle.text_names.specs.declared.Names.{Names}
 use Rattle.text_names.specs.Mirror.Tables.{Kept, Grows}
 use Rattle.gil.specs.Reading.{Reader, ◌>>=◌, token, as_word, command_word}
 use Rattle.text_values.specs.Mirror.{jump_at, numbered}
 
+-- one more than the number that is jumped to, if any is
+abbrev pub one_past : Option ℕ → ℕ
+one_past None = 0
+one_past (Some n) = suc n
+
 -- a command, number `n` of all
-pub record Does (s t t' p p' k k' code code' : List ℕ) (n out out' jump : ℕ) (ends : Bool) (c : Cmd Name) : Type 0 where
+pub record Does (s : List ℕ) (t t' p p' k k' : Names) (code code' : List ℕ) (n out out' jump : ℕ) (ends : Bool) (c : Cmd Name) : Type 0 where
   pub vars : Grows s most_variables t t' (cmd_vars c)
   pub props : Grows s most_properties p p' (cmd_properties c)
   pub calls : Grows s most_procedures k k' (cmd_calls c)

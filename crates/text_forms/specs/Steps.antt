@@ -1,5 +1,4 @@
 -- Laws that the functions' own proofs cite. Assumes nothing.
-pub mod Seeing
 pub mod Stores
 pub mod Wrote
 pub mod Exprs

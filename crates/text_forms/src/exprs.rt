@@ -1,114 +1,121 @@
-// Expressions, "at most eight deep": read by recursion with the depth that is left, into prefix words from `out` on.
-ghost use Rattle.std.specs.Prelude.{◌≡◌, suc, ◌≤◌, length};
+// Expressions, "at most eight deep": read by recursion with the depth that is left, into prefix words.
+ghost use Rattle.std.specs.Prelude.{◌≡◌, ◌<◌, suc};
+ghost use Rattle.gil.specs.Text.{lexeme};
 ghost use Rattle.gil.specs.Reading.{expr_deep, bracketed};
-ghost use Rattle.text_forms.specs.Mirror.Goes.{Goes};
-ghost use Rattle.text_forms.specs.Mirror.Stores.{put, put_number, after_number, up_from};
+ghost use Rattle.text_tokens.specs.declared.tokens.Token.TheVariants.{Reserved};
+ghost use Rattle.text_tokens.specs.Mirror.Seen.{Found};
+ghost use Rattle.text_forms.specs.Mirror.Goes.{Passes};
+ghost use Rattle.text_forms.specs.Mirror.Stores.{put_number, after_number};
 ghost use Rattle.text_forms.specs.Mirror.Wrote.{Wrote};
-ghost use Rattle.machine_code.specs.Code.{code_words};
-ghost use Rattle.gil.specs.Numbers.{most_bytes};
 
-use crate::{forms, store};
+use crate::forms;
+use crate::store::Words;
 use gil::limits::{MOST_DEPTH, MOST_VARIABLES};
-use machine_code::{CODE_WORDS, KIND, NEXT_WORD, NOT, TRUTH, VARIABLE};
-use text_names as names;
-use text_names::NAMES_WORDS;
-use text_tokens::lexemes;
-use text_words::words;
+use machine_code::{KIND, NEXT_WORD, NOT, TRUTH, VARIABLE};
+use text_names::Names;
+use text_tokens::texts::Text;
+use text_tokens::tokens::Token;
+use text_words::keys::Key;
 
 // "at most eight deep"
 pub const DEPTH: usize = MOST_DEPTH as usize;
 
-// the place after what was read, and the place after its words
-#[derive(Drop)]
-pub struct Got {
-    pub next: usize,
-    pub out: usize,
-}
-
-// a leaf of one word
-fn leaf(next: usize, code: &mut [u32; CODE_WORDS], out: usize, node: u32) -> Got
-    requires { out ≤ code_words }
-    ensures { (result.next ≡ next) × (result.out ≡ up_from out) × (result.out ≤ code_words) × (code.new ≡ put code.old out node) }
-{
-    store::store(code, out, node);
-    Got {
-        next: next,
-        out: store::after(out),
-    }
-}
-
 // a number, in one word or in two
-fn number(next: usize, code: &mut [u32; CODE_WORDS], out: usize, n: u32) -> Got
-    requires { out ≤ code_words }
-    ensures { (result.next ≡ next) × (result.out ≡ after_number out n) × (result.out ≤ code_words) × (code.new ≡ put_number code.old out n) }
+fn number(code: &mut Words, n: u32)
+    ensures same { code.new.code.ghost_name ≡ code.old.code.ghost_name }
+    ensures words { code.new.code.now ≡ put_number code.old.code.now code.old.out n }
+    ensures next { code.new.out ≡ after_number code.old.out n }
 {
     if n < KIND {
-        return leaf(next, code, out, n);
+        code.push(n);
+        return;
     }
-    store::store(code, out, NEXT_WORD);
-    leaf(next, code, store::after(out), n)
+    code.push(NEXT_WORD);
+    code.push(n);
 }
 
 // an expression at most `depth` deep
 #[cycle(expr_operation)]
 pub fn expr(
-    text: &[u8],
+    text: &Text,
     at: usize,
     depth: usize,
-    vars: &mut [u32; NAMES_WORDS],
-    code: &mut [u32; CODE_WORDS],
-    out: usize,
-) -> Got
-    requires { (length text.now ≤ most_bytes) × (out ≤ code_words) }
-    ensures { Goes text.now (suc at) (Wrote text.now vars.old vars.new code.old code.new out result.out) (expr_deep depth text.now at) result.next × (result.out ≤ code_words) }
+    vars: &mut Names,
+    code: &mut Words,
+) -> Option<usize>
+    ensures same { code.new.code.ghost_name ≡ code.old.code.ghost_name }
+    ensures read { Passes text.now (suc at) (Wrote text.now vars.old vars.new code.old.code.now code.new.code.now code.old.out code.new.out) (expr_deep depth text.now at) result }
 {
     if depth == 0 {
-        return Got {
-            next: forms::stop(text),
-            out: out,
-        };
+        return None;
     }
-    let t = lexemes::token(text, at);
-    let kind = t.kind;
-    match kind {
-        words::NAME => {
-            let x = names::intern(text, t.value, vars, MOST_VARIABLES);
-            leaf(t.next, code, out, VARIABLE + x as u32)
+    let t = text.token(at);
+    match t.token {
+        Token::Name(place) => {
+            let x = vars.intern(text, place).unwrap_or(MOST_VARIABLES);
+            code.push(VARIABLE + x as u32);
+            Some(t.next)
         }
-        words::NUMBER => number(t.next, code, out, t.value),
-        words::TRUE => leaf(t.next, code, out, TRUTH + 1),
-        words::FALSE => leaf(t.next, code, out, TRUTH),
-        words::NOT => {
-            store::store(code, out, NOT);
-            expr(text, t.next, depth - 1, vars, code, store::after(out))
+        Token::Number(n) => {
+            number(code, n);
+            Some(t.next)
         }
-        40 => operation(text, t.next, depth - 1, vars, code, out),
-        _ => Got {
-            next: forms::stop(text),
-            out: out,
-        },
+        Token::Reserved(key) => reserved(text, at, key, t.next, depth, vars, code),
+        Token::Mark(b'(') => operation(text, t.next, depth - 1, vars, code),
+        Token::Mark(_) => None,
+        _ => None,
+    }
+}
+
+// an expression that begins with a reserved word, which ends at `after`
+#[cycle(expr_operation)]
+fn reserved(
+    text: &Text,
+    at: usize,
+    key: Key,
+    after: usize,
+    depth: usize,
+    vars: &mut Names,
+    code: &mut Words,
+) -> Option<usize>
+    requires begins { Found text.now at (lexeme text.now at) (Reserved key) after }
+    requires deep { 0 < depth }
+    ensures same { code.new.code.ghost_name ≡ code.old.code.ghost_name }
+    ensures read { Passes text.now (suc at) (Wrote text.now vars.old vars.new code.old.code.now code.new.code.now code.old.out code.new.out) (expr_deep depth text.now at) result }
+{
+    match key {
+        Key::True => {
+            code.push(TRUTH + 1);
+            Some(after)
+        }
+        Key::False => {
+            code.push(TRUTH);
+            Some(after)
+        }
+        Key::Not => {
+            code.push(NOT);
+            expr(text, after, depth - 1, vars, code)
+        }
+        _ => None,
     }
 }
 
 // `(e op e)` past its first bracket
 #[cycle(expr_operation)]
 fn operation(
-    text: &[u8],
+    text: &Text,
     at: usize,
     depth: usize,
-    vars: &mut [u32; NAMES_WORDS],
-    code: &mut [u32; CODE_WORDS],
-    out: usize,
-) -> Got
-    requires { (length text.now ≤ most_bytes) × (out ≤ code_words) }
-    ensures { Goes text.now (suc at) (Wrote text.now vars.old vars.new code.old code.new out result.out) (bracketed (expr_deep depth) text.now at) result.next × (result.out ≤ code_words) }
+    vars: &mut Names,
+    code: &mut Words,
+) -> Option<usize>
+    ensures same { code.new.code.ghost_name ≡ code.old.code.ghost_name }
+    ensures read { Passes text.now (suc at) (Wrote text.now vars.old vars.new code.old.code.now code.new.code.now code.old.out code.new.out) (bracketed (expr_deep depth) text.now at) result }
 {
-    let a = expr(text, at, depth, vars, code, store::after(out));
-    let o = forms::operator(text, a.next);
-    store::store(code, out, KIND * o.value + store::between(out, a.out));
-    let b = expr(text, o.next, depth, vars, code, a.out);
-    Got {
-        next: forms::mark(text, b.next, b')'),
-        out: b.out,
-    }
+    let node = code.leave();
+    let at = expr(text, at, depth, vars, code)?;
+    let (operator, at) = forms::operator(text, at)?;
+    code.operate(node, operator);
+    let at = expr(text, at, depth, vars, code)?;
+    forms::mark(text, at, b')')
 }

@@ -1,5 +1,4 @@
 -- Laws that other crates cite. Assumes nothing.
-pub mod Items
 pub mod Lists
 pub mod Words
 pub mod Procedures

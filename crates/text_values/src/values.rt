@@ -1,257 +1,246 @@
 // What follows `v :=`: each form is read by a function of its own, which puts its names into the tables and its expressions into the words.
-ghost use Rattle.std.specs.Prelude.{List, ℕ, suc, ◌≤◌, length};
+ghost use Rattle.std.specs.Prelude.{◌≡◌, suc};
 ghost use Rattle.gil.specs.Text.{lexeme};
 ghost use Rattle.gil.specs.Tree.{Name};
 ghost use Rattle.gil.specs.Reading.{call_of, lookup_of, mutate_of, dispose_of, named, assignment, value_from};
-ghost use Rattle.text_tokens.specs.Mirror.Seen.{name_at};
-ghost use Rattle.text_names.specs.Mirror.Tables.{Interned};
-ghost use Rattle.text_forms.specs.Mirror.Goes.{Goes};
-ghost use Rattle.text_forms.specs.Mirror.Wrote.{Wrote};
+ghost use Rattle.text_tokens.specs.Mirror.Seen.{Found, name_at};
+ghost use Rattle.text_tokens.specs.declared.tokens.Token.TheVariants.{Reserved};
+ghost use Rattle.text_forms.specs.Mirror.Goes.{Gives};
+ghost use Rattle.text_forms.specs.Mirror.Wrote.{Takes, Wrote};
 ghost use Rattle.text_values.specs.Mirror.{Sets, Opens};
-ghost use Rattle.machine_code.specs.Code.{code_words};
-ghost use Rattle.gil.specs.Numbers.{most_bytes, most_properties};
+ghost use Rattle.machine_code.specs.Kinds.{command_number};
+ghost use Rattle.gil.specs.Numbers.{most_properties};
 
 use gil::limits::{MOST_PROCEDURES, MOST_PROPERTIES, MOST_VARIABLES};
-use machine_code::{
-    ASSIGN_KIND, CALL_KIND, CODE_WORDS, DISPOSE_KIND, ISYM_KIND, LOOKUP_KIND, MUTATE_KIND,
-    USYM_KIND, VARIABLE,
-};
+use machine_code::VARIABLE;
+use machine_code::kinds::CommandKind;
 use text_forms::exprs::DEPTH;
-use text_forms::{exprs, forms, store};
-use text_names as names;
-use text_names::NAMES_WORDS;
-use text_tokens::lexemes;
-use text_words::words;
+use text_forms::store::Words;
+use text_forms::{exprs, forms};
+use text_names::Names;
+use text_tokens::texts::Text;
+use text_tokens::tokens::{Place, Token};
+use text_words::keys::Key;
 
-// What follows `v :=`: the place after it, and what its five words hold beside the variable.
+// the names that a procedure's commands speak of: its variables, and the properties and callees of the text so far
 #[derive(Drop)]
+pub struct Tables {
+    pub vars: Names,
+    pub props: Names,
+    pub calls: Names,
+}
+
+// what follows `v :=`: a command's five words but for its variable
+#[derive(Clone, Copy)]
 pub struct Form {
-    pub next: usize,
-    pub out: usize,
-    pub kind: u32,
+    pub kind: CommandKind,
     pub place: u32,
     pub other: u32,
     pub second: u32,
 }
 
-// what a cell is named by: the places after it and after its words, and its property's number
-#[derive(Drop)]
-struct Cell {
-    next: usize,
-    out: usize,
-    property: u32,
-}
-
 // `v := e`
-fn plain(
-    text: &[u8],
-    at: usize,
-    vars: &mut [u32; NAMES_WORDS],
-    code: &mut [u32; CODE_WORDS],
-    out: usize,
-) -> Form
-    requires { (length text.now ≤ most_bytes) × (out ≤ code_words) }
-    ensures { ((v : Name) (p k : List ℕ) → Goes text.now (suc at) (Sets text.now v vars.old vars.new p p k k code.old code.new out result.out result.kind result.place result.other result.second) (assignment v text.now at) result.next) × (result.out ≤ code_words) }
+fn plain(text: &Text, at: usize, vars: &mut Names, code: &mut Words) -> Option<(Form, usize)>
+    ensures same { code.new.code.ghost_name ≡ code.old.code.ghost_name }
+    ensures read { (v : Name) (p k : Names) → Gives text.now (suc at) (λ f. Sets text.now v vars.old vars.new p p k k code.old.code.now code.new.code.now code.old.out code.new.out (command_number f.kind) f.place f.other f.second) (assignment v text.now at) result }
 {
-    let e = exprs::expr(text, at, DEPTH, vars, code, out);
-    Form {
-        next: e.next,
-        out: e.out,
-        kind: ASSIGN_KIND,
-        place: out as u32,
+    let place = code.out as u32;
+    let at = exprs::expr(text, at, DEPTH, vars, code)?;
+    let form = Form {
+        kind: CommandKind::Assign,
+        place: place,
         other: 0,
         second: 0,
-    }
+    };
+    Some((form, at))
 }
 
 // `v := f(e)` past the name of `f`
 fn call_of(
-    text: &[u8],
+    text: &Text,
     at: usize,
-    callee: u32,
-    vars: &mut [u32; NAMES_WORDS],
-    calls: &mut [u32; NAMES_WORDS],
-    code: &mut [u32; CODE_WORDS],
-    out: usize,
-) -> Form
-    requires { (length text.now ≤ most_bytes) × (out ≤ code_words) }
-    ensures { ((v : Name) (p : List ℕ) → Goes text.now (suc at) (Sets text.now v vars.old vars.new p p calls.old calls.new code.old code.new out result.out result.kind result.place result.other result.second) (call_of v (name_at text.now callee) text.now at) result.next) × (result.out ≤ code_words) }
+    callee: Place,
+    vars: &mut Names,
+    calls: &mut Names,
+    code: &mut Words,
+) -> Option<(Form, usize)>
+    ensures same { code.new.code.ghost_name ≡ code.old.code.ghost_name }
+    ensures read { (v : Name) (p : Names) → Gives text.now (suc at) (λ f. Sets text.now v vars.old vars.new p p calls.old calls.new code.old.code.now code.new.code.now code.old.out code.new.out (command_number f.kind) f.place f.other f.second) (call_of v (name_at text.now callee) text.now at) result }
 {
-    let a = forms::mark(text, at, b'(');
-    let f = names::intern(text, callee, calls, MOST_PROCEDURES);
-    let e = exprs::expr(text, a, DEPTH, vars, code, out);
-    Form {
-        next: forms::mark(text, e.next, b')'),
-        out: e.out,
-        kind: CALL_KIND,
-        place: out as u32,
-        other: f as u32,
+    let at = forms::mark(text, at, b'(')?;
+    let callee = calls.intern(text, callee).unwrap_or(MOST_PROCEDURES);
+    let place = code.out as u32;
+    let at = exprs::expr(text, at, DEPTH, vars, code)?;
+    let at = forms::mark(text, at, b')')?;
+    let form = Form {
+        kind: CommandKind::Call,
+        place: place,
+        other: callee as u32,
         second: 0,
-    }
+    };
+    Some((form, at))
 }
 
-// `([e, "p"`, the beginning that `lookup` and `mutate` have in common, past the action's name
+// `([e, "p"`, the beginning that `lookup` and `mutate` have in common, past the action's name: the property's number
 fn cell_of(
-    text: &[u8],
+    text: &Text,
     at: usize,
-    vars: &mut [u32; NAMES_WORDS],
-    props: &mut [u32; NAMES_WORDS],
-    code: &mut [u32; CODE_WORDS],
-    out: usize,
-) -> Cell
-    requires { (length text.now ≤ most_bytes) × (out ≤ code_words) }
-    ensures { Opens text.now at (Wrote text.now vars.old vars.new code.old code.new out result.out) (λ w. Interned text.now most_properties props.old props.new w result.property) result.next × (result.out ≤ code_words) }
+    vars: &mut Names,
+    props: &mut Names,
+    code: &mut Words,
+) -> Option<(u32, usize)>
+    ensures same { code.new.code.ghost_name ≡ code.old.code.ghost_name }
+    ensures read { Opens text.now at (Wrote text.now vars.old vars.new code.old.code.now code.new.code.now code.old.out code.new.out) (λ q w. Takes text.now most_properties props.old props.new w q) result }
 {
-    let a = forms::mark(text, at, b'(');
-    let b = forms::mark(text, a, b'[');
-    let e = exprs::expr(text, b, DEPTH, vars, code, out);
-    let c = forms::mark(text, e.next, b',');
-    let p = forms::property(text, c);
-    let q = names::intern(text, p.value, props, MOST_PROPERTIES);
-    Cell {
-        next: p.next,
-        out: e.out,
-        property: q as u32,
-    }
+    let at = forms::mark(text, at, b'(')?;
+    let at = forms::mark(text, at, b'[')?;
+    let at = exprs::expr(text, at, DEPTH, vars, code)?;
+    let at = forms::mark(text, at, b',')?;
+    let (property, at) = forms::property(text, at)?;
+    let number = props.intern(text, property).unwrap_or(MOST_PROPERTIES);
+    Some((number as u32, at))
 }
 
 // `v := lookup([e, "p"])` past the action's name
 fn lookup_of(
-    text: &[u8],
+    text: &Text,
     at: usize,
-    vars: &mut [u32; NAMES_WORDS],
-    props: &mut [u32; NAMES_WORDS],
-    code: &mut [u32; CODE_WORDS],
-    out: usize,
-) -> Form
-    requires { (length text.now ≤ most_bytes) × (out ≤ code_words) }
-    ensures { ((v : Name) (k : List ℕ) → Goes text.now (suc at) (Sets text.now v vars.old vars.new props.old props.new k k code.old code.new out result.out result.kind result.place result.other result.second) (lookup_of v text.now at) result.next) × (result.out ≤ code_words) }
+    vars: &mut Names,
+    props: &mut Names,
+    code: &mut Words,
+) -> Option<(Form, usize)>
+    ensures same { code.new.code.ghost_name ≡ code.old.code.ghost_name }
+    ensures read { (v : Name) (k : Names) → Gives text.now (suc at) (λ f. Sets text.now v vars.old vars.new props.old props.new k k code.old.code.now code.new.code.now code.old.out code.new.out (command_number f.kind) f.place f.other f.second) (lookup_of v text.now at) result }
 {
-    let c = cell_of(text, at, vars, props, code, out);
-    let d = forms::mark(text, c.next, b']');
-    Form {
-        next: forms::mark(text, d, b')'),
-        out: c.out,
-        kind: LOOKUP_KIND,
-        place: out as u32,
-        other: c.property,
+    let place = code.out as u32;
+    let (property, at) = cell_of(text, at, vars, props, code)?;
+    let at = forms::mark(text, at, b']')?;
+    let at = forms::mark(text, at, b')')?;
+    let form = Form {
+        kind: CommandKind::Lookup,
+        place: place,
+        other: property,
         second: 0,
-    }
+    };
+    Some((form, at))
 }
 
 // `v := mutate([e, "p", e])` past the action's name
 fn mutate_of(
-    text: &[u8],
+    text: &Text,
     at: usize,
-    vars: &mut [u32; NAMES_WORDS],
-    props: &mut [u32; NAMES_WORDS],
-    code: &mut [u32; CODE_WORDS],
-    out: usize,
-) -> Form
-    requires { (length text.now ≤ most_bytes) × (out ≤ code_words) }
-    ensures { ((v : Name) (k : List ℕ) → Goes text.now (suc at) (Sets text.now v vars.old vars.new props.old props.new k k code.old code.new out result.out result.kind result.place result.other result.second) (mutate_of v text.now at) result.next) × (result.out ≤ code_words) }
+    vars: &mut Names,
+    props: &mut Names,
+    code: &mut Words,
+) -> Option<(Form, usize)>
+    ensures same { code.new.code.ghost_name ≡ code.old.code.ghost_name }
+    ensures read { (v : Name) (k : Names) → Gives text.now (suc at) (λ f. Sets text.now v vars.old vars.new props.old props.new k k code.old.code.now code.new.code.now code.old.out code.new.out (command_number f.kind) f.place f.other f.second) (mutate_of v text.now at) result }
 {
-    let c = cell_of(text, at, vars, props, code, out);
-    let d = forms::mark(text, c.next, b',');
-    let w = exprs::expr(text, d, DEPTH, vars, code, c.out);
-    let f = forms::mark(text, w.next, b']');
-    Form {
-        next: forms::mark(text, f, b')'),
-        out: w.out,
-        kind: MUTATE_KIND,
-        place: out as u32,
-        other: c.property,
-        second: c.out as u32,
-    }
+    let place = code.out as u32;
+    let (property, at) = cell_of(text, at, vars, props, code)?;
+    let at = forms::mark(text, at, b',')?;
+    let second = code.out as u32;
+    let at = exprs::expr(text, at, DEPTH, vars, code)?;
+    let at = forms::mark(text, at, b']')?;
+    let at = forms::mark(text, at, b')')?;
+    let form = Form {
+        kind: CommandKind::Mutate,
+        place: place,
+        other: property,
+        second: second,
+    };
+    Some((form, at))
 }
 
 // `v := dispose(e)` past the action's name
-fn dispose_of(
-    text: &[u8],
-    at: usize,
-    vars: &mut [u32; NAMES_WORDS],
-    code: &mut [u32; CODE_WORDS],
-    out: usize,
-) -> Form
-    requires { (length text.now ≤ most_bytes) × (out ≤ code_words) }
-    ensures { ((v : Name) (p k : List ℕ) → Goes text.now (suc at) (Sets text.now v vars.old vars.new p p k k code.old code.new out result.out result.kind result.place result.other result.second) (dispose_of v text.now at) result.next) × (result.out ≤ code_words) }
+fn dispose_of(text: &Text, at: usize, vars: &mut Names, code: &mut Words) -> Option<(Form, usize)>
+    ensures same { code.new.code.ghost_name ≡ code.old.code.ghost_name }
+    ensures read { (v : Name) (p k : Names) → Gives text.now (suc at) (λ f. Sets text.now v vars.old vars.new p p k k code.old.code.now code.new.code.now code.old.out code.new.out (command_number f.kind) f.place f.other f.second) (dispose_of v text.now at) result }
 {
-    let a = forms::mark(text, at, b'(');
-    let e = exprs::expr(text, a, DEPTH, vars, code, out);
-    Form {
-        next: forms::mark(text, e.next, b')'),
-        out: e.out,
-        kind: DISPOSE_KIND,
-        place: out as u32,
+    let at = forms::mark(text, at, b'(')?;
+    let place = code.out as u32;
+    let at = exprs::expr(text, at, DEPTH, vars, code)?;
+    let at = forms::mark(text, at, b')')?;
+    let form = Form {
+        kind: CommandKind::Dispose,
+        place: place,
         other: 0,
         second: 0,
-    }
+    };
+    Some((form, at))
 }
 
 // a name after `v :=` is a call where a bracket follows, and else a variable
 fn named_form(
-    text: &[u8],
+    text: &Text,
     at: usize,
-    vars: &mut [u32; NAMES_WORDS],
-    calls: &mut [u32; NAMES_WORDS],
-    code: &mut [u32; CODE_WORDS],
-    out: usize,
-) -> Form
-    requires { (length text.now ≤ most_bytes) × (out ≤ code_words) }
-    ensures { ((v : Name) (p : List ℕ) → Goes text.now (suc at) (Sets text.now v vars.old vars.new p p calls.old calls.new code.old code.new out result.out result.kind result.place result.other result.second) (named v text.now at) result.next) × (result.out ≤ code_words) }
+    vars: &mut Names,
+    calls: &mut Names,
+    code: &mut Words,
+) -> Option<(Form, usize)>
+    ensures same { code.new.code.ghost_name ≡ code.old.code.ghost_name }
+    ensures read { (v : Name) (p : Names) → Gives text.now (suc at) (λ f. Sets text.now v vars.old vars.new p p calls.old calls.new code.old.code.now code.new.code.now code.old.out code.new.out (command_number f.kind) f.place f.other f.second) (named v text.now at) result }
 {
-    let f = forms::name(text, at);
-    if lexemes::past_mark(text, f.next, b'(') != 0 {
-        return call_of(text, f.next, f.value, vars, calls, code, out);
+    let (name, at) = forms::name(text, at)?;
+    if text.past_mark(at, b'(').is_some() {
+        return call_of(text, at, name, vars, calls, code);
     }
-    let x = names::intern(text, f.value, vars, MOST_VARIABLES);
-    store::store(code, out, VARIABLE + x as u32);
-    Form {
-        next: f.next,
-        out: store::after(out),
-        kind: ASSIGN_KIND,
-        place: out as u32,
+    let place = code.out as u32;
+    let x = vars.intern(text, name).unwrap_or(MOST_VARIABLES);
+    code.push(VARIABLE + x as u32);
+    let form = Form {
+        kind: CommandKind::Assign,
+        place: place,
         other: 0,
+        second: 0,
+    };
+    Some((form, at))
+}
+
+// `v := uSym_j` and `v := iSym_j`
+fn symbol(kind: CommandKind, site: u32) -> Form
+    ensures { (result.kind ≡ kind) × (result.place ≡ 0) × (result.other ≡ site) × (result.second ≡ 0) }
+{
+    Form {
+        kind: kind,
+        place: 0,
+        other: site,
         second: 0,
     }
 }
 
-// what follows `v :=`
-pub fn value(
-    text: &[u8],
+// what follows `v :=` where that begins with a reserved word, which ends at `after`
+fn action(
+    text: &Text,
     at: usize,
-    vars: &mut [u32; NAMES_WORDS],
-    props: &mut [u32; NAMES_WORDS],
-    calls: &mut [u32; NAMES_WORDS],
-    code: &mut [u32; CODE_WORDS],
-    out: usize,
-) -> Form
-    requires { (length text.now ≤ most_bytes) × (out ≤ code_words) }
-    ensures { ((v : Name) → Goes text.now (suc at) (Sets text.now v vars.old vars.new props.old props.new calls.old calls.new code.old code.new out result.out result.kind result.place result.other result.second) (value_from v (lexeme text.now at).token text.now at) result.next) × (result.out ≤ code_words) }
+    key: Key,
+    after: usize,
+    tables: &mut Tables,
+    code: &mut Words,
+) -> Option<(Form, usize)>
+    requires begins { Found text.now at (lexeme text.now at) (Reserved key) after }
+    ensures same { code.new.code.ghost_name ≡ code.old.code.ghost_name }
+    ensures read { (v : Name) → Gives text.now (suc at) (λ f. Sets text.now v tables.old.vars tables.new.vars tables.old.props tables.new.props tables.old.calls tables.new.calls code.old.code.now code.new.code.now code.old.out code.new.out (command_number f.kind) f.place f.other f.second) (value_from v (lexeme text.now at).token text.now at) result }
 {
-    let t = lexemes::token(text, at);
-    let kind = t.kind;
-    match kind {
-        words::NAME => named_form(text, at, vars, calls, code, out),
-        words::LOOKUP => lookup_of(text, t.next, vars, props, code, out),
-        words::MUTATE => mutate_of(text, t.next, vars, props, code, out),
-        words::DISPOSE => dispose_of(text, t.next, vars, code, out),
-        words::U_SITE => Form {
-            next: t.next,
-            out: out,
-            kind: USYM_KIND,
-            place: 0,
-            other: t.value,
-            second: 0,
-        },
-        words::I_SITE => Form {
-            next: t.next,
-            out: out,
-            kind: ISYM_KIND,
-            place: 0,
-            other: t.value,
-            second: 0,
-        },
-        _ => plain(text, at, vars, code, out),
+    match key {
+        Key::Lookup => lookup_of(text, after, &mut tables.vars, &mut tables.props, code),
+        Key::Mutate => mutate_of(text, after, &mut tables.vars, &mut tables.props, code),
+        Key::Dispose => dispose_of(text, after, &mut tables.vars, code),
+        _ => plain(text, at, &mut tables.vars, code),
+    }
+}
+
+// what follows `v :=`
+pub fn value(text: &Text, at: usize, tables: &mut Tables, code: &mut Words) -> Option<(Form, usize)>
+    ensures same { code.new.code.ghost_name ≡ code.old.code.ghost_name }
+    ensures read { (v : Name) → Gives text.now (suc at) (λ f. Sets text.now v tables.old.vars tables.new.vars tables.old.props tables.new.props tables.old.calls tables.new.calls code.old.code.now code.new.code.now code.old.out code.new.out (command_number f.kind) f.place f.other f.second) (value_from v (lexeme text.now at).token text.now at) result }
+{
+    let t = text.token(at);
+    match t.token {
+        Token::Name(_) => named_form(text, at, &mut tables.vars, &mut tables.calls, code),
+        Token::Reserved(key) => action(text, at, key, t.next, tables, code),
+        Token::USite(site) => Some((symbol(CommandKind::USym, site), t.next)),
+        Token::ISite(site) => Some((symbol(CommandKind::ISym, site), t.next)),
+        _ => plain(text, at, &mut tables.vars, code),
     }
 }

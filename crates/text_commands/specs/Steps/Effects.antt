@@ -8,18 +8,20 @@ use Rattle.gil.specs.Names.{expr_vars, cmd_vars, cmd_properties, cmd_calls, is_e
 use Rattle.machine_code.specs.Code.{cmd_nodes, cmd_words, code_words, jump_kind, vanish_kind, command_at}
 use Rattle.machine_code.proofs.Accepted.Sizes.{expr_size, cmd_size}
 use Rattle.gil.specs.Numbers.{most_commands, most_procedures, most_properties, most_variables}
-use Rattle.text_names.specs.Mirror.Tables.{Kept, number_in, Interned, Grows}
-use Rattle.text_names.specs.Laws.Tables.{number-stays, grows_none, grows_one, grows_then}
+use Rattle.text_names.specs.declared.Names.{Names}
+use Rattle.text_names.specs.Mirror.Tables.{Kept, number_in, Grows}
+use Rattle.text_names.specs.Laws.Tables.{number-stays, grows_none, grows_then}
 use Rattle.text_forms.specs.Mirror.Stores.{put_command}
-use Rattle.text_forms.specs.Mirror.Wrote.{nodes_of, Wrote}
+use Rattle.text_forms.specs.Mirror.Wrote.{nodes_of, Takes, Wrote}
+use Rattle.text_forms.specs.Laws.Wrote.{grows_takes}
 use Rattle.text_forms.specs.Laws.Stores.{command-long, command-sets}
 use Rattle.text_values.specs.Mirror.{Sets, numbered, jump_at}
 use Rattle.text_commands.specs.Mirror.{Does, Ending, failing, returning}
 
-pub does_setting : {s t t₁ t' p p' k k' code code₁ code' : List ℕ} {n out out' kind place other second x : ℕ} {v : Name} {c : Cmd Name} → Interned s most_variables t t₁ v x → Sets s v t₁ t' p p' k k' code code₁ out out' kind place other second c → code' ≡ put_command code₁ n kind x place other second → Does s t t' p p' k k' code code' n out out' 0 false c
-does_setting {s} {t} {t₁} {t'} {p} {k = k} {code = code} {code₁ = code₁} {code' = code'} {n = n} {out = out} {kind = kind} {place = place} {other = other} {second = second} {x = x} {v = v} {c = c} i w e =
+pub does_setting : {s code code₁ code' : List ℕ} {t t₁ t' p p' k k' : Names} {n out out' kind place other second x : ℕ} {v : Name} {c : Cmd Name} → Takes s most_variables t t₁ v x → Sets s v t₁ t' p p' k k' code code₁ out out' kind place other second c → code' ≡ put_command code₁ n kind x place other second → Does s t t' p p' k k' code code' n out out' 0 false c
+does_setting {s} {code = code} {code₁ = code₁} {code' = code'} {t} {t₁} {t'} {p} {k = k} {n = n} {out = out} {kind = kind} {place = place} {other = other} {second = second} {x = x} {v = v} {c = c} i w e =
     record {
-      vars = subst (λ (ws : List Name). Grows s most_variables t t' ws) (sym w.variables) (grows_then (grows_one i) w.vars);
+      vars = subst (λ (ws : List Name). Grows s most_variables t t' ws) (sym w.variables) (grows_then (grows_takes i) w.vars);
       props = w.props;
       calls = w.calls;
       jumps = sym w.on;
@@ -49,8 +51,8 @@ does_setting {s} {t} {t₁} {t'} {p} {k = k} {code = code} {code₁ = code₁} {
         whole-names vs vm = taken vs (w.reads ++ vm) ∙ ap (λ (ws : List Name). with_names vs (ws ++ vm)) (sym w.variables)
 
 -- a command whose words follow from those of its expression
-does_one : {s t t' p k code code₁ code' : List ℕ} {n out out' place kind a : ℕ} {e : Expr Name} {c : Cmd Name} → Wrote s t t' code code₁ out out' e → code' ≡ put_command code₁ n kind a place 0 0 → place ≡ out → cmd_vars c ≡ expr_vars e → cmd_properties c ≡ [] → cmd_calls c ≡ [] → cmd_size c ≡ expr_size e → ((vs qs fs : List Name) → cmd_nodes (numbered vs qs fs c) ≡ nodes_of vs e) → ((vs qs fs : List Name) → cmd_words out (numbered vs qs fs c) ≡ kind ∷ a ∷ out ∷ 0 ∷ 0 ∷ []) → {j : ℕ} {b : Bool} → j ≡ jump_at c → b ≡ is_end c → Does s t t' p p k k code code' n out out' j b c
-does_one {s} {t} {t'} {p} {k} {code} {code₁} {code'} {n} {out} {place = place} {kind = kind} {a = a} {e = e} {c = c} w f z ev ep ek es en ew ej eb =
+does_one : {s code code₁ code' : List ℕ} {t t' p k : Names} {n out out' place kind a : ℕ} {e : Expr Name} {c : Cmd Name} → Wrote s t t' code code₁ out out' e → code' ≡ put_command code₁ n kind a place 0 0 → place ≡ out → cmd_vars c ≡ expr_vars e → cmd_properties c ≡ [] → cmd_calls c ≡ [] → cmd_size c ≡ expr_size e → ((vs qs fs : List Name) → cmd_nodes (numbered vs qs fs c) ≡ nodes_of vs e) → ((vs qs fs : List Name) → cmd_words out (numbered vs qs fs c) ≡ kind ∷ a ∷ out ∷ 0 ∷ 0 ∷ []) → {j : ℕ} {b : Bool} → j ≡ jump_at c → b ≡ is_end c → Does s t t' p p k k code code' n out out' j b c
+does_one {s} {code} {code₁} {code'} {t} {t'} {p} {k} {n} {out} {place = place} {kind = kind} {a = a} {e = e} {c = c} w f z ev ep ek es en ew ej eb =
     record {
       vars = subst (λ (ws : List Name). Grows s most_variables t t' ws) (sym ev) w.vars;
       props = subst (λ (ws : List Name). Grows s most_properties p p ws) (sym ep) grows_none;
@@ -67,16 +69,16 @@ does_one {s} {t} {t'} {p} {k} {code} {code₁} {code'} {n} {out} {place = place}
           ∙ ap (sets (sets code out (cmd_nodes (numbered (with_names vs (cmd_vars c ++ vm)) (with_names qs (cmd_properties c ++ qm)) (with_names fs (cmd_calls c ++ fm)) c))) (command_at n)) (sym (ew (with_names vs (cmd_vars c ++ vm)) (with_names qs (cmd_properties c ++ qm)) (with_names fs (cmd_calls c ++ fm))));
     }
 
-pub does_jump : {s t t' p k code code₁ code' : List ℕ} {n out out' place m j : ℕ} {e : Expr Name} → Wrote s t t' code code₁ out out' e → code' ≡ put_command code₁ n jump_kind m place 0 0 → place ≡ out → j ≡ suc m → Does s t t' p p k k code code' n out out' j false (ifgoto e m)
+pub does_jump : {s code code₁ code' : List ℕ} {t t' p k : Names} {n out out' place to m : ℕ} {e : Expr Name} → Wrote s t t' code code₁ out out' e → code' ≡ put_command code₁ n jump_kind to place 0 0 → place ≡ out → to ≡ m → Does s t t' p p k k code code' n out out' (suc to) false (ifgoto e m)
 unfolding nodes_of cmd_vars cmd_properties cmd_calls jump_at is_end cmd_size numbered rename_cmd cmd_nodes cmd_words
-does_jump w e z h = does_one w e z refl refl refl refl (λ vs qs fs. refl) (λ vs qs fs. refl) h refl
+does_jump {code₁ = code₁} {n = n} {place = place} w e z h = does_one w (e ∙ ap (λ (x : ℕ). put_command code₁ n jump_kind x place 0 0) h) z refl refl refl refl (λ vs qs fs. refl) (λ vs qs fs. refl) (ap suc h) refl
 
-pub does_ending : {s t t' p k code code₁ code' : List ℕ} {n out out' place kind : ℕ} {h : Expr Name → Cmd Name} {e : Expr Name} → Ending kind h → Wrote s t t' code code₁ out out' e → code' ≡ put_command code₁ n kind 0 place 0 0 → place ≡ out → Does s t t' p p k k code code' n out out' 0 true (h e)
+pub does_ending : {s code code₁ code' : List ℕ} {t t' p k : Names} {n out out' place kind : ℕ} {h : Expr Name → Cmd Name} {e : Expr Name} → Ending kind h → Wrote s t t' code code₁ out out' e → code' ≡ put_command code₁ n kind 0 place 0 0 → place ≡ out → Does s t t' p p k k code code' n out out' 0 true (h e)
 unfolding nodes_of cmd_vars cmd_properties cmd_calls jump_at is_end cmd_size numbered rename_cmd cmd_nodes cmd_words
 does_ending returning w e z = does_one w e z refl refl refl refl (λ vs qs fs. refl) (λ vs qs fs. refl) refl refl
 does_ending failing w e z = does_one w e z refl refl refl refl (λ vs qs fs. refl) (λ vs qs fs. refl) refl refl
 
-pub does_vanish : {s t p k code code' : List ℕ} {n out : ℕ} → code' ≡ put_command code n vanish_kind 0 0 0 0 → Does s t t p p k k code code' n out out 0 true vanish
+pub does_vanish : {s code code' : List ℕ} {t p k : Names} {n out : ℕ} → code' ≡ put_command code n vanish_kind 0 0 0 0 → Does s t t p p k k code code' n out out 0 true vanish
 unfolding cmd_vars cmd_properties cmd_calls jump_at is_end cmd_size numbered rename_cmd cmd_nodes cmd_words
 does_vanish {code = code} {n = n} {out = out} e =
     record {
@@ -89,3 +91,7 @@ does_vanish {code = code} {n = n} {out = out} e =
       size = λ h. sym (add-zero out);
       words = λ vs vm qs qm fs fm kv kq kf l h m. e ∙ command-sets code n vanish_kind 0 0 0 0 l m;
     }
+
+-- where the place after the words is known by another name
+pub does_out : {s code code' : List ℕ} {t t' p p' k k' : Names} {n out out₁ out' j : ℕ} {b : Bool} {c : Cmd Name} → out' ≡ out₁ → Does s t t' p p' k k' code code' n out out₁ j b c → Does s t t' p p' k k' code code' n out out' j b c
+does_out {s} {code} {code'} {t} {t'} {p} {p'} {k} {k'} {n} {out} {j = j} {b} {c} e d = subst (λ (i : ℕ). Does s t t' p p' k k' code code' n out i j b c) (sym e) d

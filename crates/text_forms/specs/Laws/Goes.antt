@@ -1,37 +1,72 @@
 -- Readers in a row. Assumes nothing.
-use Rattle.std.specs.Prelude.{ℕ, suc, ◌≤◌, ◌≡◌, refl, List, length}
-use Rattle.std.proofs.Common.{sym, subst, arith}
-use Rattle.gil.specs.Reading.{Read, Reader, after, done}
-use Rattle.text_forms.specs.Mirror.Goes.{Goes, fails, goes}
+use Rattle.std.specs.Prelude.{ℕ, suc, ◌≤◌, ◌≡◌, refl, List, length, Option, None, Some}
+use Rattle.std.proofs.Common.{sym, ap, ◌∙◌, subst, arith}
+use Rattle.gil.specs.Reading.{Read, faulty, read, Reader, after, done}
+use Rattle.text_forms.specs.Mirror.Goes.{Goes, fails, goes, Passes}
 
--- where nothing is left, nothing is read
-pub stuck : {s : List ℕ} {at : ℕ} {A : Type 0} {Q : A → Type 0} {r : Read A} {m : ℕ} → Goes s (suc at) Q r m → at ≡ suc (length s) → m ≡ suc (length s)
-stuck (fails e) h = e
-stuck (goes e l w q) h = absurd (omega arith)
-
-pub weaken : {s : List ℕ} {low lower : ℕ} {A : Type 0} {Q : A → Type 0} {r : Read A} {m : ℕ} → lower ≤ low → Goes s low Q r m → Goes s lower Q r m
-weaken h (fails e) = fails e
+pub weaken : {s : List ℕ} {low lower : ℕ} {A B : Type 0} {next : B → ℕ} {Q : B → A → Type 0} {r : Read A} {o : Option B} → lower ≤ low → Goes s low next Q r o → Goes s lower next Q r o
+weaken h fails = fails
 weaken h (goes e l w q) = goes e (omega arith) w q
 
 -- what holds of all that has `Q` holds of what was read
-pub onto : {s : List ℕ} {low : ℕ} {A : Type 0} {Q P : A → Type 0} {r : Read A} {n : ℕ} → ((a : A) → Q a → P a) → Goes s low Q r n → Goes s low P r n
-onto h (fails e) = fails e
-onto h (goes {a = a} e l w q) = goes e l w (h a q)
+pub onto : {s : List ℕ} {low : ℕ} {A B C : Type 0} {next : B → ℕ} {next' : C → ℕ} {Q : B → A → Type 0} {P : C → A → Type 0} {r : Read A} {b : B} {c : C} → next' c ≡ next b → ((a : A) → Q b a → P c a) → Goes s low next Q r (Some b) → Goes s low next' P r (Some c)
+onto z h (goes {a = a} e l w q) = goes (z ∙ e) l w (h a q)
 
--- readers in a row: the first of them, and each that follows
-bind : {s : List ℕ} {low : ℕ} {A B : Type 0} {Q : A → Type 0} {P : B → Type 0} {r : Read A} {n m : ℕ} (f : A → Reader B) → Goes s low Q r n → (n ≡ suc (length s) → m ≡ suc (length s)) → ((a : A) → n ≤ length s → Q a → Goes s n P (f a s n) m) → Goes s low P (after s r f) m
+-- a fault is one whatever was to hold
+pub fault : {s : List ℕ} {low lower : ℕ} {A B C : Type 0} {next : B → ℕ} {next' : C → ℕ} {Q : B → A → Type 0} {P : C → A → Type 0} {r : Read A} → Goes s low next Q r None → Goes s lower next' P r None
+fault fails = fails
+
+-- what was read, and that nothing was
+pub record Item (s : List ℕ) (low : ℕ) {A : Type 0} (Q : A → Type 0) (r : Read A) (n : ℕ) : Type 0 where
+  pub item : A
+  pub is : r ≡ read item n
+  pub has : Q item
+  pub on : low ≤ n
+  pub within : n ≤ length s
+
+pub was_fault : {s : List ℕ} {low : ℕ} {A B : Type 0} {next : B → ℕ} {Q : B → A → Type 0} {r : Read A} → Goes s low next Q r None → r ≡ faulty
+was_fault fails = refl
+
+pub was_read : {s : List ℕ} {low : ℕ} {A B : Type 0} {next : B → ℕ} {Q : B → A → Type 0} {r : Read A} {b : B} → Goes s low next Q r (Some b) → Item s low (Q b) r (next b)
+was_read {s} {low} {r = r} (goes {a} {m = m} e l w q) =
+    record {
+      item = a;
+      is = ap (read a) (sym e);
+      has = q;
+      on = subst (λ (n : ℕ). low ≤ n) (sym e) l;
+      within = subst (λ (n : ℕ). n ≤ length s) (sym e) w;
+    }
+
+-- what a row comes to, past what was read
+pub lost : {s : List ℕ} {low : ℕ} {A B C : Type 0} {next : B → ℕ} {Q : B → A → Type 0} {r : Read A} (f : A → Reader C) → Goes s low next Q r None → after s r f ≡ faulty
 unfolding after
-bind f (fails e) h k = fails (h e)
-bind {s} {P = P} {m = m} f (goes {a} {m = o} e l w q) h k = weaken l (subst (λ (i : ℕ). Goes s i P (f a s i) m) e (k a (subst (λ (i : ℕ). i ≤ length s) (sym e) w) q))
+lost f fails = refl
 
-module _ {s : List ℕ} {A B : Type 0} {Q : A → Type 0} {P : B → Type 0} {r : Read A} {n m at : ℕ} (f : A → Reader B) (g : Goes s (suc at) Q r n) (h : n ≡ suc (length s) → m ≡ suc (length s)) (k : (a : A) → n ≤ length s → Q a → Goes s n P (f a s n) m) where
-  pub first : Goes s (suc at) P (after s r f) m
-  first = bind f g h k
+pub past : {s : List ℕ} {low n : ℕ} {A C : Type 0} {Q : A → Type 0} {r : Read A} (f : A → Reader C) (i : Item s low Q r n) → after s r f ≡ f i.item s n
+unfolding after
+past {s} {A = A} f i = ap (λ (x : Read A). after s x f) i.is
 
-  pub next : Goes s at P (after s r f) m
-  next = weaken (omega arith) (bind f g h k)
+-- readers in a row: a fault of the first is one of the row
+pub stops : {s : List ℕ} {low low' : ℕ} {A B C D : Type 0} {next : B → ℕ} {Q : B → A → Type 0} {next' : D → ℕ} {P : D → C → Type 0} {r : Read A} (f : A → Reader C) → Goes s low next Q r None → Goes s low' next' P (after s r f) None
+unfolding after
+stops f fails = fails
+
+-- the first of them, and each that follows
+module _ {s : List ℕ} {at : ℕ} {A B C D : Type 0} {next : B → ℕ} {Q : B → A → Type 0} {next' : D → ℕ} {P : D → C → Type 0} {r : Read A} {b : B} {o : Option D} (f : A → Reader C) (g : Goes s (suc at) next Q r (Some b)) (k : (a : A) → next b ≤ length s → Q b a → Goes s (next b) next' P (f a s (next b)) o) where
+  pub first : Goes s (suc at) next' P (after s r f) o
+  unfolding after
+  first = let i = was_read g in subst (λ (x : Read A). Goes s (suc at) next' P (after s x f) o) (sym i.is) (weaken i.on (k i.item i.within i.has))
+
+  pub then : Goes s at next' P (after s r f) o
+  then = weaken (omega arith) first
 
 -- the end of a row
-pub ended : {s : List ℕ} {B : Type 0} {P : B → Type 0} {n : ℕ} (b : B) → n ≤ length s → P b → Goes s n P (done b s n) n
+pub ended : {s : List ℕ} {C D : Type 0} {next : D → ℕ} {P : D → C → Type 0} (c : C) (d : D) → next d ≤ length s → P d c → Goes s (next d) next P (done c s (next d)) (Some d)
 unfolding done
-ended {n = n} b w p = goes {m = n} refl (omega arith) w p
+ended {next = next} c d w p = goes {m = next d} refl (omega arith) w p
+
+-- the end of a row that a mark ends
+pub closes : {s : List ℕ} {at : ℕ} {A C : Type 0} {Q : A → Type 0} {P : C → Type 0} {r : Read A} {o : Option ℕ} (c : C) → Passes s (suc at) Q r o → P c → Passes s at P (after s r (λ a. done c)) o
+unfolding after done
+closes c fails p = fails
+closes c (goes e l w q) p = goes e (omega arith) w p

@@ -1,267 +1,241 @@
--- What a token's kind says of the readers of the definitions: one law for each form and each answer. Assumes nothing.
-use Prim.Native.Nat.{ℕ, suc, ◌≤◌, ◌<◌}
-use Rattle.std.specs.Prelude.{◌≡◌, Bool, true, false, List, eqb}
-use Rattle.std.proofs.Math.Path.{refl, ap, subst}
-use Rattle.std.proofs.Common.{sym, ◌∙◌, arith}
+-- What a token of the code says of the readers of the definitions: one law for each form and each answer. Assumes nothing.
+use Rattle.std.specs.Prelude.{ℕ, suc, ◌≤◌, ◌≡◌, ◌≢◌, refl, Bool, true, false, List, [], length, Option, None, Some, is_some}
+use Rattle.std.proofs.Common.{sym, ap, ◌∙◌, subst, arith, eq-eqb}
 use Rattle.std.proofs.Math.Decide.{dec_le}
-use borrow.Author.Tests.{eq-eqb, ne_eqb}
-use Rattle.std.proofs.Math.ListN.{length}
-use Rattle.gil.specs.Text.{Key, k_ifgoto, k_return, k_fail, k_vanish, k_true, k_false, k_not, k_and, k_or, k_lookup, k_mutate, k_dispose, Token, Word, lexeme}
-use Rattle.gil.specs.Tree.{Op, plus, minus, equal, less, and, or, Name}
-use Rattle.gil.specs.Reading.{Read, Reader, after, ◌>>=◌, done, nothing, token, is_mark, is_ended, is_becomes, so, the_mark, the_becomes, name_of, as_word, the_name, number_of, the_number, property_of, the_property, op_mark, op_key, op_word, op_of, the_op}
-use Rattle.machine_code.specs.Code as Code
-use Rattle.gil.specs.Numbers.{most_characters}
-use Rattle.text_words.specs.Mirror.Kinds.{name_token, number_token, property_token, becomes_token, ended_token, ifgoto_token, and_token, or_token, dispose_token}
-use Rattle.text_words.specs.Mirror.Words.{key_kind, Stands, a_name, a_number, a_u_site, an_i_site, a_fault, a_key}
-use Rattle.text_tokens.specs.Mirror.Seen.{name_at, Seen, a_word, a_property, becoming, a_mark, the_end, Found}
+use Rattle.gil.specs.Text as Text
+use Rattle.gil.specs.Text.{Word, lexeme}
+use Rattle.gil.specs.Tree.{Op, Name}
+use Rattle.gil.specs.Reading.{Read, faulty, read, Reader, after, ◌>>=◌, done, nothing, token, is_mark, is_ended, is_becomes, so, the_mark, the_becomes, name_of, as_word, the_name, number_of, the_number, property_of, the_property, op_mark, op_key, op_word, the_op}
+use Rattle.machine_code.specs.declared.kinds.Operator.{Operator}
+use Rattle.machine_code.specs.Kinds.{op_of}
+use Rattle.text_words.specs.declared.keys.Key.{Key}
+use Rattle.text_words.specs.Mirror.Keys.{key_is}
+use Rattle.text_tokens.specs.declared.tokens.Place.{Place}
+use Rattle.text_tokens.specs.declared.tokens.Token.{Token}
+use Rattle.text_tokens.specs.Mirror.Seen.{name_at, Seen, a_name, a_number, a_key, a_u_site, an_i_site, a_fault, a_property, becoming, a_mark, the_end, Found}
 use Rattle.text_tokens.specs.Mirror.Marks.{Marked}
-use Rattle.text_forms.specs.Mirror.Goes.{Goes, fails, goes, anything}
+use Rattle.text_forms.specs.Mirror.Goes.{Goes, fails, goes, Passes, Gives, anything}
+use Rattle.text_forms.specs.Mirror.Seeing.{ReadsOp}
 use Rattle.text_forms.specs.Laws.Goes.{weaken}
 
--- the kinds of words and of the other tokens do not meet
-pub keys-high : (k : Key) → (ifgoto_token ≤ key_kind k) × (key_kind k ≤ dispose_token)
-unfolding key_kind
-keys-high k_ifgoto = omega arith
-keys-high k_return = omega arith
-keys-high k_fail = omega arith
-keys-high k_vanish = omega arith
-keys-high k_true = omega arith
-keys-high k_false = omega arith
-keys-high k_not = omega arith
-keys-high k_and = omega arith
-keys-high k_or = omega arith
-keys-high k_lookup = omega arith
-keys-high k_mutate = omega arith
-keys-high k_dispose = omega arith
-
-pub words-high : {w : List ℕ} {place : ℕ} {t : Word} {k v : ℕ} → Stands w place t k v → (name_token ≤ k) × (k ≡ property_token → ⊥) × (k ≡ becomes_token → ⊥) × (k ≡ ended_token → ⊥)
-words-high (a_name h) = omega arith
-words-high a_number = omega arith
-words-high a_u_site = omega arith
-words-high an_i_site = omega arith
-words-high a_fault = omega arith
-words-high (a_key {k = k}) = omega (arith, keys-high k)
-
 -- marks, `:=`, the end
-pub mark-is : {s : List ℕ} {t : Token} {k v : ℕ} (b : ℕ) → Seen s t k v → b < 256 → is_mark b t ≡ eqb b k
+pub mark-seen : {s : List ℕ} {t : Text.Token} {b : ℕ} → Seen s t (Token.Mark b) → is_mark b t ≡ true
 unfolding is_mark
-mark-is {k = k} b (a_word f st) h = sym (ne_eqb b k (λ e. omega (arith, (words-high st).0)))
-mark-is b (a_property f) h = sym (ne_eqb b property_token (λ e. omega arith))
-mark-is b becoming h = sym (ne_eqb b becomes_token (λ e. omega arith))
-mark-is b (a_mark l) h = refl
-mark-is b the_end h = sym (ne_eqb b ended_token (λ e. omega arith))
+mark-seen (a_mark {b} l) = eq-eqb b b refl
 
-pub becomes-is : {s : List ℕ} {t : Token} {k v : ℕ} → Seen s t k v → is_becomes t ≡ eqb k becomes_token
-unfolding is_becomes
-becomes-is {k = k} (a_word f st) = sym (ne_eqb k becomes_token (words-high st).2)
-becomes-is (a_property f) = refl
-becomes-is becoming = refl
-becomes-is {k = k} (a_mark l) = sym (ne_eqb k becomes_token (λ e. omega arith))
-becomes-is the_end = refl
-
-pub ended_is : {s : List ℕ} {t : Token} {k v : ℕ} → Seen s t k v → is_ended t ≡ eqb k ended_token
+pub ended-seen : {s : List ℕ} {t : Text.Token} → Seen s t Token.Ended → is_ended t ≡ true
 unfolding is_ended
-ended_is {k = k} (a_word f st) = sym (ne_eqb k ended_token (words-high st).3)
-ended_is (a_property f) = refl
-ended_is becoming = refl
-ended_is {k = k} (a_mark l) = sym (ne_eqb k ended_token (λ e. omega arith))
-ended_is the_end = refl
+ended-seen the_end = refl
 
--- readers by a token's kind `k` and value `v`
-unfoldable pub name_by : List ℕ → ℕ → ℕ → Reader Name
-name_by s k v = elim (eqb k name_token) [ true ↦ done (name_at s v) | false ↦ nothing ]
+pub ended-not : {s : List ℕ} {t : Text.Token} {k : Token} → Seen s t k → (k ≢ Token.Ended) → is_ended t ≡ false
+unfolding is_ended
+ended-not (a_name e) h = refl
+ended-not (a_number e) h = refl
+ended-not (a_key e) h = refl
+ended-not (a_u_site e) h = refl
+ended-not (an_i_site e) h = refl
+ended-not (a_fault e) h = refl
+ended-not (a_property e) h = refl
+ended-not becoming h = refl
+ended-not (a_mark l) h = refl
+ended-not the_end h = absurd (h refl)
 
-unfoldable pub number_by : ℕ → ℕ → Reader ℕ
-number_by k v = elim (eqb k number_token) [ true ↦ done v | false ↦ nothing ]
+becomes-seen : {s : List ℕ} {t : Text.Token} → Seen s t Token.Becomes → is_becomes t ≡ true
+unfolding is_becomes
+becomes-seen becoming = refl
 
-unfoldable pub property_by : List ℕ → ℕ → ℕ → Reader Name
-property_by s k v = elim (eqb k property_token) [ true ↦ done (name_at s v) | false ↦ nothing ]
+becomes-not : {s : List ℕ} {t : Text.Token} {k : Token} → Seen s t k → (k ≢ Token.Becomes) → is_becomes t ≡ false
+unfolding is_becomes
+becomes-not (a_name e) h = refl
+becomes-not (a_number e) h = refl
+becomes-not (a_key e) h = refl
+becomes-not (a_u_site e) h = refl
+becomes-not (an_i_site e) h = refl
+becomes-not (a_fault e) h = refl
+becomes-not (a_property e) h = refl
+becomes-not becoming h = absurd (h refl)
+becomes-not (a_mark l) h = refl
+becomes-not the_end h = refl
 
-unfoldable pub op_by_key : ℕ → Reader Op
-op_by_key k = elim (eqb k and_token) [ true ↦ done and | false ↦ elim (eqb k or_token) [ true ↦ done or | false ↦ nothing ] ]
+-- a name, a number, a property
+name-seen : {s : List ℕ} {t : Text.Token} {p : Place} → Seen s t (Token.Name p) → name_of (as_word t) ≡ done (name_at s p)
+unfolding as_word name_of
+name-seen (a_name e) = ap name_of e
 
-unfoldable pub op_by : ℕ → Reader Op
-op_by k =
-    elim (eqb k 43) [
-      | true ↦ done plus
-      | false ↦ elim (eqb k 45) [
-        | true ↦ done minus
-        | false ↦ elim (eqb k 61) [ true ↦ done equal | false ↦ elim (eqb k 60) [ true ↦ done less | false ↦ op_by_key k ] ]
-      ]
-    ]
+name-not : {s : List ℕ} {t : Text.Token} {k : Token} → Seen s t k → ((p : Place) → k ≢ Token.Name p) → name_of (as_word t) ≡ nothing
+unfolding as_word name_of
+name-not (a_name e) h = absurd (h _ refl)
+name-not (a_number e) h = ap (λ (x : Word). name_of x) e
+name-not (a_key e) h = ap (λ (x : Word). name_of x) e
+name-not (a_u_site e) h = ap (λ (x : Word). name_of x) e
+name-not (an_i_site e) h = ap (λ (x : Word). name_of x) e
+name-not (a_fault e) h = ap (λ (x : Word). name_of x) e
+name-not (a_property e) h = refl
+name-not becoming h = refl
+name-not (a_mark l) h = refl
+name-not the_end h = refl
 
--- a name's place, where the run is short enough to have one
-abbrev pub Placed : List ℕ → List ℕ → ℕ → Type 0
-Placed s w place = length w ≤ most_characters → name_at s place ≡ w
+number-seen : {s : List ℕ} {t : Text.Token} {n : ℕ} → Seen s t (Token.Number n) → number_of (as_word t) ≡ done n
+unfolding as_word number_of
+number-seen (a_number e) = ap number_of e
 
-name-word : (s : List ℕ) {w : List ℕ} {place : ℕ} {t : Word} {k v : ℕ} → Placed s w place → Stands w place t k v → name_of t ≡ name_by s k v
-unfolding name_of name_by key_kind
-name-word s p (a_name h) = ap done (sym (p h))
-name-word s p a_number = refl
-name-word s p a_u_site = refl
-name-word s p an_i_site = refl
-name-word s p a_fault = refl
-name-word s p (a_key {k = k}) = rw (ne_eqb (key_kind k) name_token (λ e. omega (arith, keys-high k)), name_by)
+number-not : {s : List ℕ} {t : Text.Token} {k : Token} → Seen s t k → ((n : ℕ) → k ≢ Token.Number n) → number_of (as_word t) ≡ nothing
+unfolding as_word number_of
+number-not (a_name e) h = ap (λ (x : Word). number_of x) e
+number-not (a_number e) h = absurd (h _ refl)
+number-not (a_key e) h = ap (λ (x : Word). number_of x) e
+number-not (a_u_site e) h = ap (λ (x : Word). number_of x) e
+number-not (an_i_site e) h = ap (λ (x : Word). number_of x) e
+number-not (a_fault e) h = ap (λ (x : Word). number_of x) e
+number-not (a_property e) h = refl
+number-not becoming h = refl
+number-not (a_mark l) h = refl
+number-not the_end h = refl
 
-pub name_by_lem : {s : List ℕ} {t : Token} {k v : ℕ} → Seen s t k v → name_of (as_word t) ≡ name_by s k v
-unfolding name_of name_by as_word
-name_by_lem {s} (a_word p st) = name-word s p st
-name_by_lem (a_property f) = refl
-name_by_lem becoming = refl
-name_by_lem {k = k} (a_mark l) = rw (ne_eqb k name_token (λ e. omega arith), name_by)
-name_by_lem the_end = refl
+property-seen : {s : List ℕ} {t : Text.Token} {p : Place} → Seen s t (Token.Property p) → property_of t ≡ done (name_at s p)
+unfolding property_of
+property-seen (a_property e) = ap done (sym e)
 
-number_word : {w : List ℕ} {place : ℕ} {t : Word} {k v : ℕ} → Stands w place t k v → number_of t ≡ number_by k v
-unfolding number_of number_by
-number_word (a_name h) = refl
-number_word a_number = refl
-number_word a_u_site = refl
-number_word an_i_site = refl
-number_word a_fault = refl
-number_word (a_key {k = k}) = rw (ne_eqb (key_kind k) number_token (λ e. omega (arith, keys-high k)), number_by)
+property-not : {s : List ℕ} {t : Text.Token} {k : Token} → Seen s t k → ((p : Place) → k ≢ Token.Property p) → property_of t ≡ nothing
+unfolding property_of
+property-not (a_name e) h = refl
+property-not (a_number e) h = refl
+property-not (a_key e) h = refl
+property-not (a_u_site e) h = refl
+property-not (an_i_site e) h = refl
+property-not (a_fault e) h = refl
+property-not (a_property e) h = absurd (h _ refl)
+property-not becoming h = refl
+property-not (a_mark l) h = refl
+property-not the_end h = refl
 
-pub number_by_lem : {s : List ℕ} {t : Token} {k v : ℕ} → Seen s t k v → number_of (as_word t) ≡ number_by k v
-unfolding number_of number_by as_word
-number_by_lem (a_word p st) = number_word st
-number_by_lem (a_property f) = refl
-number_by_lem becoming = refl
-number_by_lem {k = k} (a_mark l) = rw (ne_eqb k number_token (λ e. omega arith), number_by)
-number_by_lem the_end = refl
+-- an operator: of a mark, of a reserved word, and no other token
+pub op-by-mark : {s : List ℕ} {t : Text.Token} {b : ℕ} (o : Option Operator) → ReadsOp (op_mark b) o → Seen s t (Token.Mark b) → ReadsOp (Rattle.gil.specs.Reading.op_of t) o
+unfolding Rattle.gil.specs.Reading.op_of
+op-by-mark o h (a_mark l) = h
 
-pub property-by : {s : List ℕ} {t : Token} {k v : ℕ} → Seen s t k v → property_of t ≡ property_by s k v
-unfolding property_of property_by
-property-by {k = k} (a_word p st) = rw (ne_eqb k property_token (words-high st).1, property_by)
-property-by (a_property f) = ap done (sym f)
-property-by becoming = refl
-property-by {k = k} (a_mark l) = rw (ne_eqb k property_token (λ e. omega arith), property_by)
-property-by the_end = refl
+pub op-by-key : {s : List ℕ} {t : Text.Token} {k : Key} (o : Option Operator) → ReadsOp (op_key (key_is k)) o → Seen s t (Token.Reserved k) → ReadsOp (Rattle.gil.specs.Reading.op_of t) o
+unfolding Rattle.gil.specs.Reading.op_of op_word
+op-by-key o h (a_key e) = subst (λ (w : Word). ReadsOp (op_word w) o) (sym e) h
 
-op_key_lem : (k : Key) → op_key k ≡ op_by (key_kind k)
-unfolding op_key op_by op_by_key key_kind
-op_key_lem k_ifgoto = refl
-op_key_lem k_return = refl
-op_key_lem k_fail = refl
-op_key_lem k_vanish = refl
-op_key_lem k_true = refl
-op_key_lem k_false = refl
-op_key_lem k_not = refl
-op_key_lem k_and = refl
-op_key_lem k_or = refl
-op_key_lem k_lookup = refl
-op_key_lem k_mutate = refl
-op_key_lem k_dispose = refl
+pub op-other : {s : List ℕ} {t : Text.Token} {k : Token} → Seen s t k → ((b : ℕ) → k ≢ Token.Mark b) → ((w : Key) → k ≢ Token.Reserved w) → Rattle.gil.specs.Reading.op_of t ≡ nothing
+unfolding Rattle.gil.specs.Reading.op_of op_word
+op-other (a_name e) h g = ap op_word e
+op-other (a_number e) h g = ap op_word e
+op-other (a_key e) h g = absurd (g _ refl)
+op-other (a_u_site e) h g = ap op_word e
+op-other (an_i_site e) h g = ap op_word e
+op-other (a_fault e) h g = ap op_word e
+op-other (a_property e) h g = refl
+op-other becoming h g = refl
+op-other (a_mark l) h g = absurd (h _ refl)
+op-other the_end h g = refl
 
-op_word_lem : {w : List ℕ} {place : ℕ} {t : Word} {k v : ℕ} → Stands w place t k v → op_word t ≡ op_by k
-unfolding op_word op_by op_by_key
-op_word_lem (a_name h) = refl
-op_word_lem a_number = refl
-op_word_lem a_u_site = refl
-op_word_lem an_i_site = refl
-op_word_lem a_fault = refl
-op_word_lem (a_key {k = k}) = op_key_lem k
+pub op-key-none : (k : Key) → (k ≢ Key.And) → (k ≢ Key.Or) → op_key (key_is k) ≡ nothing
+unfolding op_key key_is
+op-key-none Key.Ifgoto a o = refl
+op-key-none Key.Return a o = refl
+op-key-none Key.Fail a o = refl
+op-key-none Key.Vanish a o = refl
+op-key-none Key.True a o = refl
+op-key-none Key.False a o = refl
+op-key-none Key.Not a o = refl
+op-key-none Key.And a o = absurd (a refl)
+op-key-none Key.Or a o = absurd (o refl)
+op-key-none Key.Lookup a o = refl
+op-key-none Key.Mutate a o = refl
+op-key-none Key.Dispose a o = refl
 
--- a mark's kind is no word's
-op_low : (k : ℕ) → k < 256 → op_by_key k ≡ nothing
-unfolding op_by_key
-op_low k h = rw (ne_eqb k and_token (λ e. omega arith), op_by_key) (rw (ne_eqb k or_token (λ e. omega arith)))
+-- the end is no operator
+op-ended : {s : List ℕ} {t : Text.Token} → Seen s t Token.Ended → Rattle.gil.specs.Reading.op_of t ≡ nothing
+unfolding Rattle.gil.specs.Reading.op_of
+op-ended the_end = refl
 
-pub op_by_lem : {s : List ℕ} {t : Token} {k v : ℕ} → Seen s t k v → op_of t ≡ op_by k
-unfolding op_of op_by op_by_key op_mark
-op_by_lem (a_word p st) = op_word_lem st
-op_by_lem (a_property f) = refl
-op_by_lem becoming = refl
-op_by_lem {k = k} (a_mark l) = at (eqb k 43) (eqb k 45) (eqb k 61) (eqb k 60)
-  where
-    at : (a b c d : Bool) → ◌≡◌ {A = Reader Op} (elim a [ true ↦ done plus | false ↦ elim b [ true ↦ done minus | false ↦ elim c [ true ↦ done equal | false ↦ elim d [ true ↦ done less | false ↦ nothing ] ] ] ]) (elim a [ true ↦ done plus | false ↦ elim b [ true ↦ done minus | false ↦ elim c [ true ↦ done equal | false ↦ elim d [ true ↦ done less | false ↦ op_by_key k ] ] ] ])
-    at true b c d = refl
-    at false true c d = refl
-    at false false true d = refl
-    at false false false true = refl
-    at false false false false = sym (op_low k l)
-op_by_lem the_end = refl
+not-done : {A : Type 0} (a : A) → ◌≡◌ {A = Reader A} nothing (done a) → ⊥
+unfolding nothing done
+not-done {A} a e = let q : faulty ≡ read a 0 = ap (λ (r : Reader A). r [] 0) e in cc
 
 -- a token that is not the end is within the text
-module _ {s : List ℕ} {at k v n : ℕ} (f : Found s at (lexeme s at) k v n) where
-  pub inside : (k ≡ ended_token → ⊥) → n ≤ length s
+module _ {s : List ℕ} {at : ℕ} {t : Token} {n : ℕ} (f : Found s at (lexeme s at) t n) where
+  pub inside : (t ≢ Token.Ended) → n ≤ length s
   inside h = elim (dec_le at (length s)) [ yes l ↦ f.within l | no l ↦ absurd (h (f.ends (omega arith))) ]
 
+  pub seen-as : {u : Token} → t ≡ u → Seen s (lexeme s at).token u
+  seen-as e = subst (λ (x : Token). Seen s (lexeme s at).token x) e f.seen
+
   -- one token, and what is made of it
-  token-step : {A : Type 0} (g : Token → Reader A) → (token >>= g) s at ≡ g (lexeme s at).token s (lexeme s at).next
+  token-step : {A : Type 0} (g : Text.Token → Reader A) → (token >>= g) s at ≡ g (lexeme s at).token s (lexeme s at).next
   unfolding token ◌>>=◌ after
   token-step g = refl
 
-  pub reads : {A : Type 0} {Q : A → Type 0} (g : Token → Reader A) (a : A) → (k ≡ ended_token → ⊥) → g (lexeme s at).token ≡ done a → Q a → Goes s (suc at) Q ((token >>= g) s at) n
+  pub reads : {A B : Type 0} {next : B → ℕ} {Q : B → A → Type 0} (g : Text.Token → Reader A) (a : A) (b : B) → next b ≡ n → (t ≢ Token.Ended) → g (lexeme s at).token ≡ done a → Q b a → Goes s (suc at) next Q ((token >>= g) s at) (Some b)
   unfolding done
-  reads {A} {Q} g a h e q =
-      subst (λ (r : Read A). Goes s (suc at) Q r n) (sym (token-step g ∙ ap (λ (p : Reader A). p s (lexeme s at).next) e))
-      (goes f.next (subst (λ (m : ℕ). suc at ≤ m) f.next (f.more h)) (subst (λ (m : ℕ). m ≤ length s) f.next (inside h)) q)
+  reads {A} {B} {next} {Q} g a b z h e q =
+      subst (λ (r : Read A). Goes s (suc at) next Q r (Some b)) (sym (token-step g ∙ ap (λ (p : Reader A). p s (lexeme s at).next) e))
+      (goes (z ∙ f.next) (subst (λ (m : ℕ). suc at ≤ m) f.next (f.more h)) (subst (λ (m : ℕ). m ≤ length s) f.next (inside h)) q)
 
-  pub faults : {A : Type 0} {Q : A → Type 0} {m : ℕ} (g : Token → Reader A) → m ≡ suc (length s) → g (lexeme s at).token ≡ nothing → Goes s (suc at) Q ((token >>= g) s at) m
+  pub faults : {A B : Type 0} {low : ℕ} {next : B → ℕ} {Q : B → A → Type 0} (g : Text.Token → Reader A) → g (lexeme s at).token ≡ nothing → Goes s low next Q ((token >>= g) s at) None
   unfolding nothing
-  faults {A} {Q} {m} g h e = subst (λ (r : Read A). Goes s (suc at) Q r m) (sym (token-step g ∙ ap (λ (p : Reader A). p s (lexeme s at).next) e)) (fails h)
+  faults {A} {low = low} {next} {Q} g e = subst (λ (r : Read A). Goes s low next Q r None) (sym (token-step g ∙ ap (λ (p : Reader A). p s (lexeme s at).next) e)) fails
 
   -- what follows the token is read by `p`
-  pub carries : {A : Type 0} {Q : A → Type 0} {m : ℕ} (g : Token → Reader A) (p : Reader A) → (k ≡ ended_token → ⊥) → g (lexeme s at).token ≡ p → Goes s (suc n) Q (p s n) m → Goes s (suc at) Q ((token >>= g) s at) m
-  carries {A} {Q} {m} g p h e q =
-      subst (λ (r : Read A). Goes s (suc at) Q r m) (sym (token-step g ∙ ap (λ (x : Reader A). x s (lexeme s at).next) e ∙ ap (λ (i : ℕ). p s i) (sym f.next)))
+  pub carries : {A B : Type 0} {next : B → ℕ} {Q : B → A → Type 0} {o : Option B} (g : Text.Token → Reader A) (p : Reader A) → (t ≢ Token.Ended) → g (lexeme s at).token ≡ p → Goes s (suc n) next Q (p s n) o → Goes s (suc at) next Q ((token >>= g) s at) o
+  carries {A} {next = next} {Q} {o} g p h e q =
+      subst (λ (r : Read A). Goes s (suc at) next Q r o) (sym (token-step g ∙ ap (λ (x : Reader A). x s (lexeme s at).next) e ∙ ap (λ (i : ℕ). p s i) (sym f.next)))
       (weaken (omega (arith, f.more h)) q)
 
-  pub mark-goes : (b : ℕ) → b < 256 → k ≡ b → Goes s (suc at) anything (the_mark b s at) n
-  unfolding the_mark so
-  mark-goes b h e = reads (λ t. so (is_mark b t)) tt (λ z. omega arith) (ap so (mark-is b f.seen h ∙ eq-eqb b k (sym e))) tt
-
-  pub becomes-goes : k ≡ becomes_token → Goes s (suc at) anything (the_becomes s at) n
+  pub becomes-goes : t ≡ Token.Becomes → Passes s (suc at) anything (the_becomes s at) (Some n)
   unfolding the_becomes so
-  becomes-goes e = reads (λ t. so (is_becomes t)) tt (λ z. omega arith) (ap so (becomes-is f.seen ∙ eq-eqb k becomes_token e)) tt
+  becomes-goes e = reads (λ x. so (is_becomes x)) tt n refl (λ q. cc) (ap so (becomes-seen (seen-as e))) tt
 
-  pub becomes-fails : {m : ℕ} → (k ≡ becomes_token → ⊥) → m ≡ suc (length s) → Goes s (suc at) anything (the_becomes s at) m
+  pub becomes-fails : (t ≢ Token.Becomes) → Passes s (suc at) anything (the_becomes s at) None
   unfolding the_becomes so
-  becomes-fails e z = faults (λ t. so (is_becomes t)) z (ap so (becomes-is f.seen ∙ ne_eqb k becomes_token e))
+  becomes-fails h = faults (λ x. so (is_becomes x)) (ap so (becomes-not f.seen h))
 
-  pub name-goes : k ≡ name_token → Goes s (suc at) (λ w. name_at s v ≡ w) (the_name s at) n
-  unfolding the_name name_by
-  name-goes e = reads (λ t. name_of (as_word t)) (name_at s v) (λ z. omega arith) (name_by_lem f.seen ∙ rw e) refl
+  pub name-goes : (p : Place) → t ≡ Token.Name p → Gives s (suc at) (λ (p : Place) (w : Name). name_at s p ≡ w) (the_name s at) (Some (p, n))
+  unfolding the_name
+  name-goes p e = reads (λ x. name_of (as_word x)) (name_at s p) (p, n) refl (λ q. cc) (name-seen (seen-as e)) refl
 
-  pub name-fails : {m : ℕ} (u : ℕ) → (k ≡ name_token → ⊥) → m ≡ suc (length s) → Goes s (suc at) (λ w. name_at s u ≡ w) (the_name s at) m
-  unfolding the_name name_by
-  name-fails u e z = faults (λ t. name_of (as_word t)) z (name_by_lem f.seen ∙ rw (ne_eqb k name_token e, name_by))
+  pub name-fails : ((p : Place) → t ≢ Token.Name p) → Gives s (suc at) (λ (p : Place) (w : Name). name_at s p ≡ w) (the_name s at) None
+  unfolding the_name
+  name-fails h = faults (λ x. name_of (as_word x)) (name-not f.seen h)
 
-  pub number-goes : k ≡ number_token → Goes s (suc at) (λ a. v ≡ a) (the_number s at) n
-  unfolding the_number number_by
-  number-goes e = reads (λ t. number_of (as_word t)) v (λ z. omega arith) (number_by_lem f.seen ∙ rw e) refl
+  pub number-goes : (m : ℕ) → t ≡ Token.Number m → Gives s (suc at) (λ (m a : ℕ). m ≡ a) (the_number s at) (Some (m, n))
+  unfolding the_number
+  number-goes m e = reads (λ x. number_of (as_word x)) m (m, n) refl (λ q. cc) (number-seen (seen-as e)) refl
 
-  pub number-fails : {m u : ℕ} → (k ≡ number_token → ⊥) → m ≡ suc (length s) → Goes s (suc at) (λ a. u ≡ a) (the_number s at) m
-  unfolding the_number number_by
-  number-fails e z = faults (λ t. number_of (as_word t)) z (number_by_lem f.seen ∙ rw (ne_eqb k number_token e, number_by))
+  pub number-fails : ((m : ℕ) → t ≢ Token.Number m) → Gives s (suc at) (λ (m a : ℕ). m ≡ a) (the_number s at) None
+  unfolding the_number
+  number-fails h = faults (λ x. number_of (as_word x)) (number-not f.seen h)
 
-  pub property-goes : k ≡ property_token → Goes s (suc at) (λ w. name_at s v ≡ w) (the_property s at) n
-  unfolding the_property property_by
-  property-goes e = reads property_of (name_at s v) (λ z. omega arith) (property-by f.seen ∙ rw e) refl
+  pub property-goes : (p : Place) → t ≡ Token.Property p → Gives s (suc at) (λ (p : Place) (w : Name). name_at s p ≡ w) (the_property s at) (Some (p, n))
+  unfolding the_property
+  property-goes p e = reads property_of (name_at s p) (p, n) refl (λ q. cc) (property-seen (seen-as e)) refl
 
-  pub property-fails : {m : ℕ} (u : ℕ) → (k ≡ property_token → ⊥) → m ≡ suc (length s) → Goes s (suc at) (λ w. name_at s u ≡ w) (the_property s at) m
-  unfolding the_property property_by
-  property-fails u e z = faults property_of z (property-by f.seen ∙ rw (ne_eqb k property_token e, property_by))
+  pub property-fails : ((p : Place) → t ≢ Token.Property p) → Gives s (suc at) (λ (p : Place) (w : Name). name_at s p ≡ w) (the_property s at) None
+  unfolding the_property
+  property-fails h = faults property_of (property-not f.seen h)
 
-  -- an operator, by the kind that it has
-  pub op_goes : {u : ℕ} (o : Op) (j : ℕ) → k ≡ j → op_by j ≡ done o → u ≡ Code.op_word o → (j ≡ ended_token → ⊥) → Goes s (suc at) (λ p. u ≡ Code.op_word p) (the_op s at) n
+  -- an operator; the end is none
+  pub op-goes : (o : Operator) → ((x : Text.Token) → Seen s x t → ReadsOp (Rattle.gil.specs.Reading.op_of x) (Some o)) → Gives s (suc at) (λ (u : Operator) (p : Op). op_of u ≡ p) (the_op s at) (Some (o, n))
   unfolding the_op
-  op_goes o j e d q h = reads op_of o (λ z. h (sym e ∙ z)) (op_by_lem f.seen ∙ ap op_by e ∙ d) q
+  op-goes o h = reads Rattle.gil.specs.Reading.op_of (op_of o) (o, n) refl (λ z. not-done (op_of o) (sym (op-ended (seen-as z)) ∙ h (lexeme s at).token f.seen)) (h (lexeme s at).token f.seen) refl
 
-  pub op_fails : {m u : ℕ} → (k ≡ 43 → ⊥) → (k ≡ 45 → ⊥) → (k ≡ 61 → ⊥) → (k ≡ 60 → ⊥) → (k ≡ and_token → ⊥) → (k ≡ or_token → ⊥) → m ≡ suc (length s) → Goes s (suc at) (λ p. u ≡ Code.op_word p) (the_op s at) m
+  pub op-fails : ((x : Text.Token) → Seen s x t → ReadsOp (Rattle.gil.specs.Reading.op_of x) None) → Gives s (suc at) (λ (u : Operator) (p : Op). op_of u ≡ p) (the_op s at) None
   unfolding the_op
-  op_fails a b c d g h z = faults op_of z (op_by_lem f.seen ∙ none)
-    where
-      none : op_by k ≡ nothing
-      none = unfold op_by op_by_key in rw (ne_eqb k 43 a, op_by) (rw (ne_eqb k 45 b) (rw (ne_eqb k 61 c) (rw (ne_eqb k 60 d) (rw (ne_eqb k and_token g, op_by_key) (rw (ne_eqb k or_token h))))))
+  op-fails h = faults Rattle.gil.specs.Reading.op_of (h (lexeme s at).token f.seen)
 
 -- a mark by its byte
-module _ {s : List ℕ} {at b r : ℕ} (m : Marked s at b r) where
-  pub mark-read : b < 256 → (r ≡ 0 → ⊥) → Goes s (suc at) anything (the_mark b s at) r
-  mark-read h n = mark-goes (m.found n) b h refl
+pub mark-reads : {s : List ℕ} {at : ℕ} (b : ℕ) {o : Option ℕ} → Marked s at b o → Passes s (suc at) anything (the_mark b s at) o
+unfolding the_mark so token ◌>>=◌ after nothing
+mark-reads {s} {at} b {o = None} e = subst (λ (x : Read (Unit {0})). Passes s (suc at) anything x None) (sym (ap (λ (t : Bool). so t s (lexeme s at).next) e)) fails
+mark-reads b {o = Some n} f = reads f (λ t. so (is_mark b t)) tt n refl (λ q. cc) (ap so (mark-seen f.seen)) tt
 
-  pub mark-there : b < 256 → (r ≡ 0 → ⊥) → is_mark b (lexeme s at).token ≡ true
-  mark-there h n = mark-is b (m.found n).seen h ∙ eq-eqb b b refl
+-- whether the mark is there
+pub mark-there : (s : List ℕ) (at b : ℕ) (o : Option ℕ) → Marked s at b o → true ≡ is_some o → is_mark b (lexeme s at).token ≡ true
+mark-there s at b None m e = absurd (let q : true ≡ false = e in cc)
+mark-there s at b (Some n) f e = mark-seen f.seen
 
-  pub mark_missed : {n : ℕ} → r ≡ 0 → n ≡ suc (length s) → Goes s (suc at) anything (the_mark b s at) n
-  unfolding the_mark so token ◌>>=◌ after nothing
-  mark_missed {n} e z = subst (λ (x : Read (Unit {0})). Goes s (suc at) anything x n) (sym (ap (λ (t : Bool). so t s (lexeme s at).next) (m.other e))) (fails z)
+pub mark-absent : (s : List ℕ) (at b : ℕ) (o : Option ℕ) → Marked s at b o → false ≡ is_some o → is_mark b (lexeme s at).token ≡ false
+mark-absent s at b None m e = m
+mark-absent s at b (Some n) f e = absurd (let q : false ≡ true = e in cc)

@@ -1,9 +1,18 @@
--- What reading a token of a given kind answers. Assumes nothing.
-use Rattle.std.specs.Prelude.{ℕ, suc, ◌≡◌, List, length}
-use Rattle.gil.specs.Text.{lexeme}
-use Rattle.text_tokens.specs.Mirror.Seen.{Found}
+-- What the operator of a token is to the definitions. Assumes nothing.
+use Rattle.std.specs.Prelude.{ℕ, ◌≡◌, List, Option, None, Some}
+use Rattle.gil.specs.Text as Text
+use Rattle.gil.specs.Tree.{Op}
+use Rattle.gil.specs.Reading as Reading
+use Rattle.gil.specs.Reading.{Reader, done, nothing}
+use Rattle.machine_code.specs.declared.kinds.Operator.{Operator}
+use Rattle.machine_code.specs.Kinds.{op_of}
+use Rattle.text_tokens.specs.declared.tokens.Token.{Token}
+use Rattle.text_tokens.specs.Mirror.Seen.{Seen}
 
--- what `of_kind` answers: the token is of the kind, or it is of another, and there is nothing to be read
-pub data OfKind (s : List ℕ) (at kind : ℕ) : ℕ → ℕ → Type 0 where
-  found : {v n : ℕ} → Found s at (lexeme s at) kind v n → OfKind s at kind v n
-  other : {k u j v n : ℕ} → Found s at (lexeme s at) k u j → (k ≡ kind → ⊥) → n ≡ suc (length s) → OfKind s at kind v n
+abbrev pub ReadsOp : Reader Op → Option Operator → Type 0
+ReadsOp r None = ◌≡◌ {A = Reader Op} r nothing
+ReadsOp r (Some o) = ◌≡◌ {A = Reader Op} r (done (op_of o))
+
+-- the operator of a token of the code
+abbrev pub OperatorOf : Token → Option Operator → Type 0
+OperatorOf k o = (s : List ℕ) (t : Text.Token) → Seen s t k → ReadsOp (Reading.op_of t) o

@@ -1,8 +1,8 @@
 -- The words of each form of an expression. Assumes nothing.
 use Rattle.std.specs.Prelude.{ℕ, ◌+◌, ◌-◌, ◌≤◌, ◌≡◌, Bool, List, ◌∷◌, ◌++◌, set}
-use Rattle.std.proofs.Math.Path.{refl, sym, ap}
+use Rattle.std.proofs.Math.Path.{refl, sym, ap, subst}
 use Rattle.std.proofs.Common.{◌∙◌, append_assoc, add-one}
-use native.Mathlib.Omega.{arith}
+use Rattle.std.proofs.Common.{arith}
 use Rattle.std.proofs.Math.ListN.{length}
 use Rattle.std.proofs.lemmas.List.Edits.{sets}
 use Rattle.gil.specs.Tree.{Op, Expr, num, bool, neg, bin, Name}
@@ -10,8 +10,11 @@ use Rattle.gil.specs.Names.{expr_vars, rename_expr, with_names}
 use Rattle.machine_code.specs.Code as Code
 use Rattle.machine_code.specs.Code.{node, expr_words, code_words, not_node, truth_node}
 use Rattle.machine_code.proofs.Accepted.Sizes.{expr_size}
+use Rattle.machine_code.specs.declared.kinds.Operator.{Operator}
+use Rattle.machine_code.specs.Kinds.{op_of, operator_number, operator-word}
 use Rattle.gil.specs.Layout.{bit}
 use Rattle.gil.specs.Numbers.{most_variables}
+use Rattle.text_names.specs.declared.Names.{Names}
 use Rattle.text_names.specs.Mirror.Tables.{Kept, Grows}
 use Rattle.text_names.specs.Laws.Lists.{with_names-append}
 use Rattle.text_names.specs.Laws.Tables.{grows_none, grows_then}
@@ -21,7 +24,7 @@ use Rattle.text_forms.specs.Laws.Stores.{put-long, put-set, up_room, sets-append
 use Rattle.text_forms.specs.Laws.Wrote.{nodes-size}
 use Rattle.text_forms.specs.Steps.Stores.{number-long, number-sets, number-room, node-before}
 
-module _ {s t code code' : List ℕ} {out out' : ℕ} where
+module _ {s code code' : List ℕ} {t : Names} {out out' : ℕ} where
   pub wrote_num : (n : ℕ) → out' ≡ after_number out n → code' ≡ put_number code out n → Wrote s t t code code' out out' (num n)
   unfolding expr_vars expr_size nodes_of expr_words rename_expr
   wrote_num n o c =
@@ -42,9 +45,9 @@ module _ {s t code code' : List ℕ} {out out' : ℕ} where
         words = λ all more k l h. c ∙ put-set code out v l ∙ ap (set code out) z;
       }
 
-pub wrote_neg : {s t t' code code₁ code' : List ℕ} {out out₁ out' : ℕ} {e : Expr Name} → code₁ ≡ put code out (node not_node 0) → out₁ ≡ up_from out → Wrote s t t' code₁ code' out₁ out' e → Wrote s t t' code code' out out' (neg e)
+pub wrote_neg : {s code code₁ code' : List ℕ} {t t' : Names} {out out₁ out' : ℕ} {e : Expr Name} → code₁ ≡ put code out (node not_node 0) → out₁ ≡ up_from out → Wrote s t t' code₁ code' out₁ out' e → Wrote s t t' code code' out out' (neg e)
 unfolding expr_vars
-wrote_neg {s} {t} {t'} {code} {code₁} {code'} {out} {out₁} {out'} {e} c o w =
+wrote_neg {s} {code} {code₁} {code'} {t} {t'} {out} {out₁} {out'} {e} c o w =
     record {
       vars = w.vars;
       long = w.long ∙ ap length c ∙ put-long code out (node not_node 0);
@@ -70,7 +73,7 @@ wrote_neg {s} {t} {t'} {code} {code₁} {code'} {out} {out₁} {out'} {e} c o w 
         ∙ (unfold nodes_of expr_words rename_expr in refl)
 
 -- an operator's node stands before the words of its operands, and is stored between them
-module _ {s t t₁ t' code code₁ code₂ code' : List ℕ} {out₀ out₁ out' len op : ℕ} {a b : Expr Name} (out : ℕ) (o : Op) (u : out₀ ≡ up_from out) (wa : Wrote s t t₁ code code₁ out₀ out₁ a) (q : op ≡ Code.op_word o) (c : code₂ ≡ put code₁ out (node op len)) (l : out + 1 ≤ out₁ → len ≡ out₁ - (out + 1)) (wb : Wrote s t₁ t' code₂ code' out₁ out' b) where
+module _ {s code code₁ code₂ code' : List ℕ} {t t₁ t' : Names} {out₀ out₁ out' len op : ℕ} {a b : Expr Name} (out : ℕ) (o : Op) (u : out₀ ≡ up_from out) (wa : Wrote s t t₁ code code₁ out₀ out₁ a) (q : op ≡ Code.op_word o) (c : code₂ ≡ put code₁ out (node op len)) (l : out + 1 ≤ out₁ → len ≡ out₁ - (out + 1)) (wb : Wrote s t₁ t' code₂ code' out₁ out' b) where
   room : out + expr_size (bin o a b) ≤ code_words → out + 1 + expr_size a + expr_size b ≤ code_words
   unfolding expr_size
   room h = omega arith
@@ -134,3 +137,8 @@ module _ {s t t₁ t' code code₁ code₂ code' : List ℕ} {out₀ out₁ out'
     where
       together : Grows s most_variables t t' (expr_vars (bin o a b))
       together = unfold expr_vars in grows_then wa.vars wb.vars
+
+-- the same as the code has it: a word is left for the node at `at`, and stored between the operands
+pub wrote_op : {s code code₀ code₁ code₂ code' : List ℕ} {t t₁ t' : Names} {out out₀ out₁ out₂ out' at : ℕ} {a b : Expr Name} {o : Op} (x : Operator) → code₀ ≡ code → (out₀ ≡ up_from out) × (at ≡ out) → Wrote s t t₁ code₀ code₁ out₀ out₁ a → op_of x ≡ o → code₂ ≡ put code₁ at (node (operator_number x) (out₁ - (at + 1))) → out₂ ≡ out₁ → Wrote s t₁ t' code₂ code' out₂ out' b → Wrote s t t' code code' out out' (bin o a b)
+wrote_op {s} {code₁ = code₁} {code₂} {code'} {t} {t₁} {t'} {out = out} {out₀} {out₁} {out' = out'} {a = a} {b} {o} x k (u, z) wa q c y wb =
+    wrote_bin out o u (subst (λ (ws : List ℕ). Wrote s t t₁ ws code₁ out₀ out₁ a) k wa) (sym (operator-word x) ∙ ap Code.op_word q) (c ∙ ap (λ (i : ℕ). put code₁ i (node (operator_number x) (out₁ - (i + 1)))) z) (λ h. refl) (subst (λ (i : ℕ). Wrote s t₁ t' code₂ code' i out' b) y wb)

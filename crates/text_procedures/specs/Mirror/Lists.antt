@@ -6,6 +6,7 @@ use Rattle.gil.specs.Names.{gather, cmd_vars, cmd_properties, cmd_calls, ends_op
 use Rattle.machine_code.specs.Code.{cmd_nodes, command_words, code_words, nodes_at, command_at}
 use Rattle.machine_code.proofs.Accepted.Sizes.{cmd_size}
 use Rattle.gil.specs.Numbers.{most_commands, most_procedures, most_properties, most_variables}
+use Rattle.text_names.specs.declared.Names.{Names}
 use Rattle.text_names.specs.Mirror.Tables.{Kept, Grows}
 use Rattle.text_values.specs.Mirror.{jump_at, numbered}
 
@@ -24,7 +25,7 @@ unfoldable pub body_stored : List ℕ → ℕ → ℕ → List (Cmd ℕ) → Lis
 body_stored code first out rs = sets (sets code out (gather cmd_nodes rs)) (command_at first) (command_words out rs)
 
 -- the commands of a procedure: `first` is the number of the first of them among all
-pub record Lists (s t t' p p' k k' code code' : List ℕ) (first out out' count jump : ℕ) (ends : Bool) (cs : List (Cmd Name)) : Type 0 where
+pub record Lists (s : List ℕ) (t t' p p' k k' : Names) (code code' : List ℕ) (first out out' count jump : ℕ) (ends : Bool) (cs : List (Cmd Name)) : Type 0 where
   pub vars : Grows s most_variables t t' (gather cmd_vars cs)
   pub props : Grows s most_properties p p' (gather cmd_properties cs)
   pub calls : Grows s most_procedures k k' (gather cmd_calls cs)

@@ -1,15 +1,17 @@
 -- What reading a procedure, and all of them, does. Assumes nothing.
-use Rattle.std.specs.Prelude.{ℕ, ◌+◌, ◌≤◌, ◌<◌, ◌≡◌, Bool, List, [], ◌∷◌, ◌++◌, map, length, ltb}
+use Rattle.std.specs.Prelude.{ℕ, ◌+◌, ◌≤◌, ◌<◌, ◌≡◌, Bool, List, [], ◌∷◌, ◌++◌, map, length, ltb, Option, None, Some}
 use Rattle.gil.specs.Tree.{Cmd, Proc, Name}
+use Rattle.gil.specs.Reading.{Read, faulty, read}
 use Rattle.gil.specs.Names.{any, gather, cmd_properties, cmd_calls, jumps_past, ends_open, with_names, proc_vars}
 use Rattle.machine_code.specs.Code.{code_words, nodes_at}
 use Rattle.gil.specs.Numbers.{most_commands, most_procedures, most_properties, most_variables}
+use Rattle.text_names.specs.declared.Names.{Names}
 use Rattle.text_names.specs.Mirror.Tables.{Kept, Grows}
 use Rattle.text_procedures.specs.Mirror.Lists.{body_size}
 use Rattle.text_procedures.specs.Mirror.Words.{proc_of, proc_stored, program_stored}
 
 -- a procedure
-pub record Declares (s p p' k k' q q' code code' : List ℕ) (number from out out' count : ℕ) (wide past unended : Bool) (r : Proc Name) : Type 0 where
+pub record Declares (s : List ℕ) (p p' k k' q q' : Names) (code code' : List ℕ) (number from out out' count : ℕ) (wide past unended : Bool) (r : Proc Name) : Type 0 where
   pub props : Grows s most_properties p p' (gather cmd_properties r.body)
   pub calls : Grows s most_procedures k k' (gather cmd_calls r.body)
   pub procs : Grows s most_procedures q q' (r.name ∷ [])
@@ -41,7 +43,7 @@ abbrev pub all_of : List (Proc Name) → List (Cmd Name)
 all_of ps = gather (λ r. r.body) ps
 
 -- all procedures
-pub record Tells (s p p' k k' q q' code code' : List ℕ) (procs commands : ℕ) (wide past unended : Bool) (ps : List (Proc Name)) : Type 0 where
+pub record Tells (s : List ℕ) (p p' k k' q q' : Names) (code code' : List ℕ) (procs commands : ℕ) (wide past unended : Bool) (ps : List (Proc Name)) : Type 0 where
   pub props : Grows s most_properties p p' (gather props_of ps)
   pub calls : Grows s most_procedures k k' (gather calls_of ps)
   pub names : Grows s most_procedures q q' (gather (λ r. r.name ∷ []) ps)
@@ -52,3 +54,8 @@ pub record Tells (s p p' k k' q q' code code' : List ℕ) (procs commands : ℕ)
   pub stays : unended ≡ any open_of ps
   pub long : length code' ≡ length code
   pub words : (ns nm fs fm : List Name) → Kept s most_properties p ns → Kept s most_procedures k fs → length code ≡ code_words → nodes_at + body_size (all_of ps) ≤ code_words → length (all_of ps) ≤ most_commands → length ps ≤ most_procedures → code' ≡ program_stored code (map (proc_of (with_names ns (gather props_of ps ++ nm)) (with_names fs (gather calls_of ps ++ fm))) ps)
+
+-- a whole text: a fault, or something read that has `Q`
+pub data Whole {A B : Type 0} (Q : B → A → Type 0) : Read A → Option B → Type 0 where
+  unread : Whole Q faulty None
+  all_read : {a : A} {b : B} {n : ℕ} → Q b a → Whole Q (read a n) (Some b)

@@ -4,7 +4,6 @@ use Rattle.std.proofs.Math.Path.{refl, ap}
 use Rattle.std.proofs.Common.{sym, ◌∙◌, append_assoc}
 use Rattle.gil.specs.Text.{Token, lexeme}
 use Rattle.gil.specs.Reading.{Read, faulty, read, Reader, after, ◌>>=◌, done, ahead, or_more, one_or_more}
-use Rattle.text_forms.specs.Mirror.Goes.{Goes, fails, goes}
 
 -- items before those of a list
 unfoldable pub join : {A : Type 0} → List A → Read (List A) → Read (List A)
@@ -20,11 +19,6 @@ pub join-none : {A : Type 0} (r : Read (List A)) → r ≡ join [] r
 unfolding join
 join-none faulty = refl
 join-none (read l n) = refl
-
--- the same place by another name
-pub moved : {s : List ℕ} {low : ℕ} {A : Type 0} {Q : A → Type 0} {r : Read A} {m n : ℕ} → m ≡ n → Goes s low Q r n → Goes s low Q r m
-moved h (fails e) = fails (h ∙ e)
-moved h (goes e l w q) = goes (h ∙ e) l w q
 
 module _ {A : Type 0} (s : List ℕ) (item : Reader A) (last : Token → Bool) (more : Reader (List A)) (i : ℕ) where
   pub list_fault : item s i ≡ faulty → one_or_more item last more s i ≡ faulty

@@ -1,6 +1,6 @@
 -- A turn of the loop over commands: what is kept is that of the commands so far. Assumes nothing.
-use Prim.Native.Nat.{ℕ, suc, ◌+◌, ◌-◌, ◌≤◌, ◌<◌, max}
-use Rattle.std.specs.Prelude.{◌≡◌, Bool, true, false, not, List, [], ◌∷◌, ◌++◌, map}
+use Rattle.std.specs.Prelude.{ℕ, suc, ◌+◌, ◌-◌, ◌≤◌, max}
+use Rattle.std.specs.Prelude.{◌≡◌, Bool, true, false, not, List, [], ◌∷◌, ◌++◌, map, None, Some}
 use Rattle.std.proofs.Math.Path.{refl, ap, subst}
 use Rattle.std.proofs.Common.{sym, ◌∙◌, append_assoc, append-nil, arith, length-append, add-zero}
 use Rattle.std.proofs.lemmas.List.{map-append, length-map}
@@ -14,15 +14,16 @@ use Rattle.machine_code.specs.Code.{cmd_nodes, cmd_words, command_words, code_wo
 use Rattle.machine_code.proofs.Accepted.Sizes.{cmd_size}
 use Rattle.gil.specs.Numbers.{most_commands, most_procedures, most_properties, most_variables}
 use Rattle.gil.proofs.Theory.Gathered.{gather_append, gather-last}
+use Rattle.text_names.specs.declared.Names.{Names}
 use Rattle.text_names.specs.Mirror.Tables.{Kept, Grows}
 use Rattle.text_names.specs.Laws.Lists.{with_names-append}
 use Rattle.text_names.specs.Laws.Tables.{grows_none, grows_then}
 use Rattle.text_forms.specs.Mirror.Goes.{Goes, fails, goes}
+use Rattle.text_forms.specs.Laws.Goes.{was_fault, Item}
 use Rattle.text_forms.specs.Laws.Stores.{sets-append, sets_swap}
 use Rattle.text_values.specs.Mirror.{jump_at, numbered}
 use Rattle.text_commands.specs.Mirror.{Does}
 use Rattle.text_procedures.specs.Mirror.Lists.{highest, body_size, body_stored, Lists}
-use Rattle.text_procedures.specs.Laws.Items.{was-fault, Item, was_read}
 use Rattle.text_procedures.specs.Laws.Lists.{size-append, body-nodes-size, words-length}
 use Rattle.text_procedures.specs.Steps.Items.{join, join-join, join-none, list_fault, list_last, list_more}
 
@@ -37,7 +38,7 @@ open_more [] c = refl
 open_more (d ∷ []) c = refl
 open_more (d ∷ e ∷ cs) c = open_more (e ∷ cs) c
 
-pub grows-more : {A : Type 0} {s : List ℕ} {cap : ℕ} {t t₁ t' : List ℕ} (f : A → List Name) (so : List A) (a : A) → Grows s cap t t₁ (gather f so) → Grows s cap t₁ t' (f a) → Grows s cap t t' (gather f (so ++ (a ∷ [])))
+pub grows-more : {A : Type 0} {s : List ℕ} {cap : ℕ} {t t₁ t' : Names} (f : A → List Name) (so : List A) (a : A) → Grows s cap t t₁ (gather f so) → Grows s cap t₁ t' (f a) → Grows s cap t t' (gather f (so ++ (a ∷ [])))
 grows-more {s = s} {cap} {t} {t' = t'} f so a g h = subst (λ (ws : List Name). Grows s cap t t' ws) (sym (gather-last f so a)) (grows_then g h)
 
 pub size-more : (cs : List (Cmd Name)) (c : Cmd Name) → body_size (cs ++ (c ∷ [])) ≡ body_size cs + cmd_size c
@@ -110,7 +111,7 @@ one_more code₀ first out₀ so c vs vm qs qm fs fm {code} {code'} {out} {count
     stored a b g x n m = sets (sets x n (cmd_nodes (numbered a b g c))) (command_at (first + m)) (cmd_words n (numbered a b g c))
 
 -- in the middle of them
-pub record Turn (s t t' p p' k k' code code' : List ℕ) (at first out out' i count jump : ℕ) : Type 0 where
+pub record Turn (s : List ℕ) (t t' p p' k k' : Names) (code code' : List ℕ) (at first out out' i count jump : ℕ) : Type 0 where
   pub so : List (Cmd Name)
   pub rest : commands s at ≡ join so (commands_of (suc (length s) - count) s i)
   pub vars : Grows s most_variables t t' (gather cmd_vars so)
@@ -124,7 +125,7 @@ pub record Turn (s t t' p p' k k' code code' : List ℕ) (at first out out' i co
   pub size : out + body_size so ≤ code_words → out' ≡ out + body_size so
   pub words : (vs vm qs qm fs fm : List Name) → Kept s most_variables t vs → Kept s most_properties p qs → Kept s most_procedures k fs → length code ≡ code_words → nodes_at ≤ out → out + body_size so ≤ code_words → first + length so ≤ most_commands → code' ≡ body_stored code first out (map (numbered (with_names vs (gather cmd_vars so ++ vm)) (with_names qs (gather cmd_properties so ++ qm)) (with_names fs (gather cmd_calls so ++ fm))) so)
 
-pub turn-none : {s t p k code : List ℕ} (at : ℕ) {first out : ℕ} → Turn s t t p p k k code code at first out out at 0 0
+pub turn-none : {s code : List ℕ} {t p k : Names} (at : ℕ) {first out : ℕ} → Turn s t t p p k k code code at first out out at 0 0
 unfolding commands gather highest body_size body_stored command_words
 turn-none {s} at {out = out} =
     record {
@@ -142,88 +143,81 @@ turn-none {s} at {out = out} =
       words = λ vs vm qs qm fs fm kv kq kf l low h m. refl;
     }
 
-module _ {s t₀ t t' p₀ p p' k₀ k k' code₀ code code' : List ℕ} {at first out₀ out out' i count jump n j : ℕ} {ends : Bool} (u : Turn s t₀ t p₀ p k₀ k code₀ code at first out₀ out i count jump) (g : Goes s (suc i) (Does s t t' p p' k k' code code' (first + count) out out' j ends) (command s i) n) where
+module _ {s code₀ code : List ℕ} {t₀ t p₀ p k₀ k : Names} {at first out₀ out i count jump : ℕ} (u : Turn s t₀ t p₀ p k₀ k code₀ code at first out₀ out i count jump) where
   here : commands_of (suc (length s) - count) s i ≡ one_or_more command (is_mark 125) (commands_of (length s - count)) s i
   unfolding commands_of
   here = let e : suc (length s) - count ≡ suc (length s - count) = omega (arith, u.room) in ap (λ (m : ℕ). commands_of m s i) e
 
-  pub turn-fault : {P : List (Cmd Name) → Type 0} → length s < n → Goes s (suc at) P (commands s at) n
+  pub turn-fault : {B C : Type 0} {low low' : ℕ} {next : B → ℕ} {next' : C → ℕ} {Q : B → Cmd Name → Type 0} {P : C → List (Cmd Name) → Type 0} → Goes s low' next Q (command s i) None → Goes s low next' P (commands s at) None
   unfolding join
-  turn-fault {P} h = subst (λ (r : Read (List (Cmd Name))). Goes s (suc at) P r n) (sym (u.rest ∙ ap (join u.so) (here ∙ list_fault s command (is_mark 125) (commands_of (length s - count)) i (was-fault g h)))) (fails (past g h))
+  turn-fault {low = low} {next' = next'} {P = P} g = subst (λ (r : Read (List (Cmd Name))). Goes s low next' P r None) (sym (u.rest ∙ ap (join u.so) (here ∙ list_fault s command (is_mark 125) (commands_of (length s - count)) i (was_fault g)))) fails
+
+module _ {s code₀ code code' : List ℕ} {t₀ t t' p₀ p p' k₀ k k' : Names} {at first out₀ out out' i count jump n j : ℕ} {ends : Bool} (u : Turn s t₀ t p₀ p k₀ k code₀ code at first out₀ out i count jump) (it : Item s (suc i) (Does s t t' p p' k k' code code' (first + count) out out' j ends) (command s i) n) {jump' : ℕ} (hj : jump' ≡ max jump j) where
+  one : length (u.so ++ (it.item ∷ [])) ≡ count + 1
+  one = length-append u.so (it.item ∷ []) ∙ (let e = u.counted in omega arith)
+
+  high : jump' ≡ highest (u.so ++ (it.item ∷ []))
+  high = hj ∙ ap (λ (m : ℕ). max m j) u.jumps ∙ ap (max (highest u.so)) it.has.jumps ∙ sym (highest-more u.so it.item)
+
+  more-long : length code' ≡ length code₀
+  more-long = it.has.long ∙ u.long
+
+  room-so : out₀ + body_size (u.so ++ (it.item ∷ [])) ≤ code_words → out₀ + body_size u.so ≤ code_words
+  room-so r = omega (arith, size-more u.so it.item)
+
+  placed : out₀ + body_size (u.so ++ (it.item ∷ [])) ≤ code_words → out ≡ out₀ + body_size u.so
+  placed r = u.size (room-so r)
+
+  more-size : out₀ + body_size (u.so ++ (it.item ∷ [])) ≤ code_words → out' ≡ out₀ + body_size (u.so ++ (it.item ∷ []))
+  more-size r = let z = placed r in let y = size-more u.so it.item in it.has.size (omega arith) ∙ omega arith
+
+  more-words : (vs vm qs qm fs fm : List Name) → Kept s most_variables t₀ vs → Kept s most_properties p₀ qs → Kept s most_procedures k₀ fs → length code₀ ≡ code_words → nodes_at ≤ out₀ → out₀ + body_size (u.so ++ (it.item ∷ [])) ≤ code_words → first + length (u.so ++ (it.item ∷ [])) ≤ most_commands → code' ≡ body_stored code₀ first out₀ (map (numbered (with_names vs (gather cmd_vars (u.so ++ (it.item ∷ [])) ++ vm)) (with_names qs (gather cmd_properties (u.so ++ (it.item ∷ [])) ++ qm)) (with_names fs (gather cmd_calls (u.so ++ (it.item ∷ [])) ++ fm))) (u.so ++ (it.item ∷ [])))
+  more-words vs vm qs qm fs fm kv kq kf l low r m =
+      let z = placed r in
+      let y = size-more u.so it.item in
+      let n = length-append u.so (it.item ∷ []) in
+      let e = u.counted in
+      one_more code₀ first out₀ u.so it.item vs vm qs qm fs fm low
+      (u.words vs (cmd_vars it.item ++ vm) qs (cmd_properties it.item ++ qm) fs (cmd_calls it.item ++ fm) kv kq kf l low (room-so r) (omega arith))
+      z e (omega arith)
+      (it.has.words (with_names vs (gather cmd_vars u.so)) vm (with_names qs (gather cmd_properties u.so)) qm (with_names fs (gather cmd_calls u.so)) fm (u.vars.kept vs kv) (u.props.kept qs kq) (u.calls.kept fs kf) (u.long ∙ l) (omega arith) (omega arith))
+
+  lists_last : Lists s t₀ t' p₀ p' k₀ k' code₀ code' first out₀ out' (count + 1) jump' ends (u.so ++ (it.item ∷ []))
+  lists_last =
+      record {
+        vars = grows-more cmd_vars u.so it.item u.vars it.has.vars;
+        props = grows-more cmd_properties u.so it.item u.props it.has.props;
+        calls = grows-more cmd_calls u.so it.item u.calls it.has.calls;
+        counted = sym one;
+        jumps = high;
+        ending = open_more u.so it.item ∙ ap not (sym it.has.ending);
+        long = more-long;
+        size = more-size;
+        words = more-words;
+      }
+
+  pub turn_last : {B : Type 0} {next : B → ℕ} {P : B → List (Cmd Name) → Type 0} (b : B) → next b ≡ n → ((cs : List (Cmd Name)) → Lists s t₀ t' p₀ p' k₀ k' code₀ code' first out₀ out' (count + 1) jump' ends cs → P b cs) → is_mark 125 (lexeme s n).token ≡ true → Goes s (suc at) next P (commands s at) (Some b)
+  turn_last {next = next} {P} b z g e =
+      subst (λ (r : Read (List (Cmd Name))). Goes s (suc at) next P r (Some b))
+      (sym (u.rest ∙ ap (join u.so) (here u ∙ list_last s command (is_mark 125) (commands_of (length s - count)) i it.item it.is e)))
+      (unfold join in goes z (omega (arith, it.on, u.behind)) it.within (g (u.so ++ (it.item ∷ [])) lists_last))
+
+  pub turn_more : is_mark 125 (lexeme s n).token ≡ false → Turn s t₀ t' p₀ p' k₀ k' code₀ code' at first out₀ out' n (count + 1) jump'
+  turn_more e =
+      record {
+        so = u.so ++ (it.item ∷ []);
+        rest = u.rest ∙ ap (join u.so) (here u ∙ list_more s command (is_mark 125) (commands_of (length s - count)) i it.item it.is e) ∙ join-join u.so (it.item ∷ []) (commands_of (length s - count) s n) ∙ fuel;
+        vars = lists_last.vars;
+        props = lists_last.props;
+        calls = lists_last.calls;
+        counted = sym one;
+        jumps = high;
+        room = omega (arith, it.on, u.behind);
+        behind = omega (arith, it.on, u.behind);
+        long = more-long;
+        size = more-size;
+        words = more-words;
+      }
     where
-      past : {r : Read (Cmd Name)} {Q : Cmd Name → Type 0} → Goes s (suc i) Q r n → length s < n → n ≡ suc (length s)
-      past (fails e) l = e
-      past (goes e l w q) v = absurd (omega arith)
-
-  module _ (h : n ≤ length s) {jump' : ℕ} (hj : jump' ≡ max jump j) where
-    it : Item s (suc i) (Does s t t' p p' k k' code code' (first + count) out out' j ends) (command s i) n
-    it = was_read g h
-
-    one : length (u.so ++ (it.item ∷ [])) ≡ count + 1
-    one = length-append u.so (it.item ∷ []) ∙ (let e = u.counted in omega arith)
-
-    high : jump' ≡ highest (u.so ++ (it.item ∷ []))
-    high = hj ∙ ap (λ (m : ℕ). max m j) u.jumps ∙ ap (max (highest u.so)) it.has.jumps ∙ sym (highest-more u.so it.item)
-
-    more-long : length code' ≡ length code₀
-    more-long = it.has.long ∙ u.long
-
-    room-so : out₀ + body_size (u.so ++ (it.item ∷ [])) ≤ code_words → out₀ + body_size u.so ≤ code_words
-    room-so r = omega (arith, size-more u.so it.item)
-
-    placed : out₀ + body_size (u.so ++ (it.item ∷ [])) ≤ code_words → out ≡ out₀ + body_size u.so
-    placed r = u.size (room-so r)
-
-    more-size : out₀ + body_size (u.so ++ (it.item ∷ [])) ≤ code_words → out' ≡ out₀ + body_size (u.so ++ (it.item ∷ []))
-    more-size r = let z = placed r in let y = size-more u.so it.item in it.has.size (omega arith) ∙ omega arith
-
-    more-words : (vs vm qs qm fs fm : List Name) → Kept s most_variables t₀ vs → Kept s most_properties p₀ qs → Kept s most_procedures k₀ fs → length code₀ ≡ code_words → nodes_at ≤ out₀ → out₀ + body_size (u.so ++ (it.item ∷ [])) ≤ code_words → first + length (u.so ++ (it.item ∷ [])) ≤ most_commands → code' ≡ body_stored code₀ first out₀ (map (numbered (with_names vs (gather cmd_vars (u.so ++ (it.item ∷ [])) ++ vm)) (with_names qs (gather cmd_properties (u.so ++ (it.item ∷ [])) ++ qm)) (with_names fs (gather cmd_calls (u.so ++ (it.item ∷ [])) ++ fm))) (u.so ++ (it.item ∷ [])))
-    more-words vs vm qs qm fs fm kv kq kf l low r m =
-        let z = placed r in
-        let y = size-more u.so it.item in
-        let n = length-append u.so (it.item ∷ []) in
-        let e = u.counted in
-        one_more code₀ first out₀ u.so it.item vs vm qs qm fs fm low
-        (u.words vs (cmd_vars it.item ++ vm) qs (cmd_properties it.item ++ qm) fs (cmd_calls it.item ++ fm) kv kq kf l low (room-so r) (omega arith))
-        z e (omega arith)
-        (it.has.words (with_names vs (gather cmd_vars u.so)) vm (with_names qs (gather cmd_properties u.so)) qm (with_names fs (gather cmd_calls u.so)) fm (u.vars.kept vs kv) (u.props.kept qs kq) (u.calls.kept fs kf) (u.long ∙ l) (omega arith) (omega arith))
-
-    lists_last : Lists s t₀ t' p₀ p' k₀ k' code₀ code' first out₀ out' (count + 1) jump' ends (u.so ++ (it.item ∷ []))
-    lists_last =
-        record {
-          vars = grows-more cmd_vars u.so it.item u.vars it.has.vars;
-          props = grows-more cmd_properties u.so it.item u.props it.has.props;
-          calls = grows-more cmd_calls u.so it.item u.calls it.has.calls;
-          counted = sym one;
-          jumps = high;
-          ending = open_more u.so it.item ∙ ap not (sym it.has.ending);
-          long = more-long;
-          size = more-size;
-          words = more-words;
-        }
-
-    pub turn_last : is_mark 125 (lexeme s n).token ≡ true → Goes s (suc at) (Lists s t₀ t' p₀ p' k₀ k' code₀ code' first out₀ out' (count + 1) jump' ends) (commands s at) n
-    turn_last e =
-        subst (λ (r : Read (List (Cmd Name))). Goes s (suc at) (Lists s t₀ t' p₀ p' k₀ k' code₀ code' first out₀ out' (count + 1) jump' ends) r n)
-        (sym (u.rest ∙ ap (join u.so) (here ∙ list_last s command (is_mark 125) (commands_of (length s - count)) i it.item it.is e)))
-        (unfold join in goes {m = n} refl (omega (arith, it.after, u.behind)) h lists_last)
-
-    pub turn_more : is_mark 125 (lexeme s n).token ≡ false → Turn s t₀ t' p₀ p' k₀ k' code₀ code' at first out₀ out' n (count + 1) jump'
-    turn_more e =
-        record {
-          so = u.so ++ (it.item ∷ []);
-          rest = u.rest ∙ ap (join u.so) (here ∙ list_more s command (is_mark 125) (commands_of (length s - count)) i it.item it.is e) ∙ join-join u.so (it.item ∷ []) (commands_of (length s - count) s n) ∙ fuel;
-          vars = lists_last.vars;
-          props = lists_last.props;
-          calls = lists_last.calls;
-          counted = sym one;
-          jumps = high;
-          room = omega (arith, it.after, u.behind);
-          behind = omega (arith, it.after, u.behind);
-          long = more-long;
-          size = more-size;
-          words = more-words;
-        }
-      where
-        fuel : join (u.so ++ (it.item ∷ [])) (commands_of (length s - count) s n) ≡ join (u.so ++ (it.item ∷ [])) (commands_of (suc (length s) - (count + 1)) s n)
-        fuel = let z : length s - count ≡ suc (length s) - (count + 1) = omega arith in ap (λ (m : ℕ). join (u.so ++ (it.item ∷ [])) (commands_of m s n)) z
+      fuel : join (u.so ++ (it.item ∷ [])) (commands_of (length s - count) s n) ≡ join (u.so ++ (it.item ∷ [])) (commands_of (suc (length s) - (count + 1)) s n)
+      fuel = let z : length s - count ≡ suc (length s) - (count + 1) = omega arith in ap (λ (m : ℕ). join (u.so ++ (it.item ∷ [])) (commands_of m s n)) z

@@ -1,11 +1,11 @@
 -- The loop that links, over stored procedures; linked, they are document 01's. Assumes nothing.
-use Prim.Native.Nat.{ℕ, zero, suc, ◌+◌, ◌-◌, ◌≤◌, ◌<◌, min}
+use Rattle.std.specs.Prelude.{ℕ, zero, suc, ◌+◌, ◌-◌, ◌≤◌, ◌<◌, min}
 use Rattle.std.specs.Prelude.{◌≡◌, ◌||◌, take, get_or, eqb}
 use Rattle.std.proofs.Math.Path.{refl, sym, ap}
 use Rattle.std.proofs.Common.{◌∙◌, add-one, eq-eqb, ne_eqb, get_or-set_same, get_or-set_other, set-set, get_or-take, take_all}
 use Rattle.std.proofs.Math.Bool.{Bool, true, false, not}
 use mathlib.Core.List.{List, [], ◌∷◌, ◌++◌, map, map-append}
-use native.Mathlib.Omega.{arith}
+use Rattle.std.proofs.Common.{arith}
 use Rattle.std.proofs.Math.ListN.{length, set, length-set, length-map, get_or-map}
 use Rattle.std.proofs.Math.Seq.{sets, length-sets}
 use Rattle.gil.specs.Text.{bytes, same}
@@ -19,7 +19,8 @@ use Rattle.machine_code.proofs.Accepted.Places.{place_of-below, with_names-has}
 use Rattle.gil.specs.Numbers.{most_commands, most_procedures}
 use Rattle.text_words.specs.Laws.Words.{same-is}
 use Rattle.text_tokens.specs.Mirror.Seen.{name_at}
-use Rattle.text_names.specs.Mirror.Tables.{Kept, number_in}
+use Rattle.text_names.specs.declared.Names.{Names}
+use Rattle.text_names.specs.Mirror.Tables.{Kept, number_in, known}
 use Rattle.text_names.specs.Laws.Distinct.{distinct-is, few-distinct}
 use Rattle.text_forms.specs.Laws.Stores.{sets-append, set-sets, sets_swap}
 use Rattle.text_procedures.specs.Mirror.Lists.{body_stored}
@@ -27,7 +28,7 @@ use Rattle.text_procedures.specs.Mirror.Words.{proc_of, bodies, program_stored}
 use Rattle.text_procedures.specs.Mirror.Procedures.{calls_of}
 use Rattle.text_procedures.specs.Laws.Lists.{five-words}
 use Rattle.text_procedures.specs.Laws.Words.{three-words, proc_is}
-use Rattle.text_programs.specs.Mirror.Linked.{relink, relink_proc, callee_in, Links, link_command}
+use Rattle.text_programs.specs.Mirror.Linked.{relink, relink_proc, callee_in, nowhere, Links, link_command}
 
 -- the words with `k` commands linked, from command `i` on
 unfoldable pub link_from : (ℕ → ℕ) → List ℕ → ℕ → ℕ → List ℕ
@@ -191,15 +192,15 @@ module _ (g : ℕ → ℕ) (commands : ℕ) where
   unfolding link_from
   link_end ws i h = let z : commands - i ≡ 0 = omega arith in ap (link_from g ws i) z
 
-pub links-all : (s calls procs : List ℕ) (n commands : ℕ) (code code' : List ℕ) → link_from (callee_in s calls procs n) code 0 commands ≡ code' → Links s calls procs n commands code code'
-links-all s calls procs n commands code code' e =
+pub links-all : (s : List ℕ) (calls procs : Names) (commands : ℕ) (code code' : List ℕ) → link_from (callee_in s calls procs) code 0 commands ≡ code' → Links s calls procs commands code code'
+links-all s calls procs commands code code' e =
     record {
-      long = ap length (sym e) ∙ from-long (callee_in s calls procs n) commands code 0 commands;
+      long = ap length (sym e) ∙ from-long (callee_in s calls procs) commands code 0 commands;
       words = λ code₀ qs l c m few small nodes.
           sym e
-          ∙ ap (λ (ws : List ℕ). link_from (callee_in s calls procs n) ws 0 commands) c
-          ∙ ap (link_from (callee_in s calls procs n) (program_stored code₀ qs) 0) m
-          ∙ program-linked (callee_in s calls procs n) code₀ qs l few small;
+          ∙ ap (λ (ws : List ℕ). link_from (callee_in s calls procs) ws 0 commands) c
+          ∙ ap (link_from (callee_in s calls procs) (program_stored code₀ qs) 0) m
+          ∙ program-linked (callee_in s calls procs) code₀ qs l few small;
     }
 
 -- the linked procedures are document 01's
@@ -243,7 +244,7 @@ relink_proc_lem g p f k r h =
 
 -- Where refusals 5 and 6 are not given: `limited` is `limits_kept` (crates/machine_code/proofs/Accepted.antt) of `over_limits ps ≡ false`; `kq` and `kc`
 -- are `kept-procs` and `kept-calls` of specs/Steps/Verdict.antt, so `Tells.names` and `Tells.calls` from empty tables.
-module _ (s calls procs : List ℕ) (ps : List (Proc Name)) (limited : Limited ps) (right : wrong_names ps ≡ false) (kq : Kept s most_procedures procs (with_names [] (proc_names ps))) (kc : Kept s most_procedures calls (with_names [] (gather calls_of ps))) where
+module _ (s : List ℕ) (calls procs : Names) (ps : List (Proc Name)) (limited : Limited ps) (right : wrong_names ps ≡ false) (kq : Kept s most_procedures procs (with_names [] (proc_names ps))) (kc : Kept s most_procedures calls (with_names [] (gather calls_of ps))) where
   tests : (repeated (proc_names ps) ≡ false) × (any (λ f. not (has f (proc_names ps))) (gather calls_of ps) ≡ false)
   unfolding wrong_names
   tests =
@@ -257,38 +258,39 @@ module _ (s calls procs : List ℕ) (ps : List (Proc Name)) (limited : Limited p
   few_callees : length (with_names [] (gather calls_of ps)) ≤ most_procedures
   few_callees = omega (arith, few-distinct (gather calls_of ps) (proc_names ps) tests.1, as_many, limited.few_procedures)
 
-  all-procs : map (name_at s) (take (length ps) procs) ≡ proc_names ps
+  pub all-procs : known s procs ≡ proc_names ps
+  unfolding known
   all-procs =
       let own = distinct-is (proc_names ps) tests.0 in
-      let e : length ps ≡ min most_procedures (length (with_names [] (proc_names ps))) = omega (arith, ap length own, as_many, limited.few_procedures) in
-      ap (λ (n : ℕ). map (name_at s) (take n procs)) e ∙ kq.named ∙ ap (take most_procedures) own ∙ take_all most_procedures (proc_names ps) (omega (arith, as_many, limited.few_procedures))
+      let e : min procs.count procs.most ≡ min most_procedures (length (with_names [] (proc_names ps))) = omega (arith, kq.counted, kq.most) in
+      ap (λ (n : ℕ). map (name_at s) (take n procs.places)) e ∙ kq.named ∙ ap (take most_procedures) own ∙ take_all most_procedures (proc_names ps) (omega (arith, as_many, limited.few_procedures))
 
-  all-calls : map (name_at s) (take (length (with_names [] (gather calls_of ps))) calls) ≡ with_names [] (gather calls_of ps)
+  all-calls : map (name_at s) (take (length (with_names [] (gather calls_of ps))) calls.places) ≡ with_names [] (gather calls_of ps)
   all-calls =
       let e : length (with_names [] (gather calls_of ps)) ≡ min most_procedures (length (with_names [] (gather calls_of ps))) = omega (arith, few_callees) in
-      ap (λ (n : ℕ). map (name_at s) (take n calls)) e ∙ kc.named ∙ take_all most_procedures (with_names [] (gather calls_of ps)) few_callees
+      ap (λ (n : ℕ). map (name_at s) (take n calls.places)) e ∙ kc.named ∙ take_all most_procedures (with_names [] (gather calls_of ps)) few_callees
 
-  callee_named : (w : Name) → has w (with_names [] (gather calls_of ps)) ≡ true → name_at s (get_or calls (place_of w (with_names [] (gather calls_of ps))) 0) ≡ w
+  callee_named : (w : Name) → has w (with_names [] (gather calls_of ps)) ≡ true → name_at s (get_or calls.places (place_of w (with_names [] (gather calls_of ps))) nowhere) ≡ w
   callee_named w h =
       let fs = with_names [] (gather calls_of ps) in
       let k = place_of w fs in
       let low : k < length fs = place_of-below w fs h in
-      ap (name_at s) (sym (get_or-take (length fs) calls k 0 low))
-      ∙ sym (get_or-map (name_at s) (take (length fs) calls) k 0)
-      ∙ ap (λ (l : List Name). get_or l k (name_at s 0)) all-calls
-      ∙ name-at w fs (name_at s 0) low
+      ap (name_at s) (sym (get_or-take (length fs) calls.places k nowhere low))
+      ∙ sym (get_or-map (name_at s) (take (length fs) calls.places) k nowhere)
+      ∙ ap (λ (l : List Name). get_or l k (name_at s nowhere)) all-calls
+      ∙ name-at w fs (name_at s nowhere) low
 
-  callee_is : (w : Name) → has w (with_names [] (gather calls_of ps)) ≡ true → callee_in s calls procs (length ps) (number_in most_procedures (with_names [] (gather calls_of ps)) w) ≡ place_of w (proc_names ps)
+  callee_is : (w : Name) → has w (with_names [] (gather calls_of ps)) ≡ true → callee_in s calls procs (number_in most_procedures (with_names [] (gather calls_of ps)) w) ≡ place_of w (proc_names ps)
   unfolding callee_in number_in
   callee_is w h =
-      ap (λ (l : List Name). place_of (name_at s (get_or calls (place_of w l) 0)) (map (name_at s) (take (length ps) procs))) (take_all most_procedures (with_names [] (gather calls_of ps)) few_callees)
-      ∙ ap (λ (v : Name). place_of v (map (name_at s) (take (length ps) procs))) (callee_named w h)
+      ap (λ (l : List Name). place_of (name_at s (get_or calls.places (place_of w l) nowhere)) (known s procs)) (take_all most_procedures (with_names [] (gather calls_of ps)) few_callees)
+      ∙ ap (λ (v : Name). place_of v (known s procs)) (callee_named w h)
       ∙ ap (place_of w) all-procs
 
   each-called : Each (λ r. Each (λ c. Each (λ w. has w (with_names [] (gather calls_of ps)) ≡ true) (cmd_calls c)) r.body) ps
   each-called = each_to (λ r. each-gather cmd_calls r.body) (each-gather calls_of ps (with_names-has [] (gather calls_of ps)))
 
-  pub linked-is : map (relink_proc (callee_in s calls procs (length ps))) (map (proc_of (properties ps) (with_names [] (gather calls_of ps))) ps) ≡ (number_program ps).procedures
+  pub linked-is : map (relink_proc (callee_in s calls procs)) (map (proc_of (properties ps) (with_names [] (gather calls_of ps))) ps) ≡ (number_program ps).procedures
   unfolding number_program
   linked-is =
       map-map (relink_proc g) (proc_of (properties ps) fs) ps
@@ -298,7 +300,7 @@ module _ (s calls procs : List ℕ) (ps : List (Proc Name)) (limited : Limited p
       fs = with_names [] (gather calls_of ps)
 
       g : ℕ → ℕ
-      g = callee_in s calls procs (length ps)
+      g = callee_in s calls procs
 
       number : Name → ℕ
       number w = place_of w (properties ps)

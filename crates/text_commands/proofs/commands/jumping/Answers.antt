@@ -1,13 +1,18 @@
 -- `commands::jumping` meets its contract. Assumes nothing.
-use Rattle.text_commands.specs.Steps.Commands.{jump_goes}
-use Rattle.text_commands.specs.Steps.Effects.{does_jump}
-use Rattle.text_commands.specs.Mirror.{Does}
-use mathlib.Core.Path.{refl, ◌∙◌, ap, subst}
-use Prim.Native.Nat.{ℕ, ◌+◌}
-use Rattle.gil.specs.Tree.{ifgoto}
-use mathlib.Core.Bool.{false}
-use native.Mathlib.Numerals.{add-one}
+use Rattle.std.proofs.Common.{refl}
+use Rattle.gil.specs.Reading.{◌>>=◌, jump_of, expr}
+use Rattle.text_forms.specs.Laws.Goes.{stops, first, then, ended}
+use Rattle.text_commands.specs.Steps.Effects.{does_jump, does_out}
 use Rattle.text_commands.proofs.commands.jumping.Goals as goal
 
-pub returns : goal.returns
-returns c = (λ p k. jump_goes (λ e m q i. subst (λ (x : ℕ). Does c.args.text.now c.args.vars.now c.expr-e.new.vars p p k k c.args.code.now c.store_command.new.words c.args.n c.args.out c.expr-e.result.out (c.wide.result + 1) false (ifgoto e x)) i (does_jump q c.store_command.ensures refl (ap (λ (x : ℕ). x + 1) c.wide.ensures.0 ∙ add-one c.number-to.result.value))) c.expr-e.ensures.0 c.number-to.ensures, c.expr-e.ensures.1)
+pub returns-in_err-at-clause-read : goal.returns-in_err-at-clause-read
+unfolding jump_of ◌>>=◌ expr
+returns-in_err-at-clause-read c = λ p k. rw c.from_residual.ensures (stops _ c.in_err-at.ensures.read)
+
+pub returns-in_err-to-clause-read : goal.returns-in_err-to-clause-read
+unfolding jump_of ◌>>=◌ expr
+returns-in_err-to-clause-read c = λ p k. rw c.from_residual-in_err-to.ensures (first _ c.in_ok-at.ensures.read (λ e w q. stops _ c.in_err-to.ensures))
+
+pub returns-clause-read : goal.returns-clause-read
+unfolding jump_of ◌>>=◌ expr
+returns-clause-read c = λ p k. first _ c.in_ok-at.ensures.read (λ e w q. then _ c.in_ok-to.ensures (λ m wm i. ended _ _ wm (does_out c.command.ensures.next (does_jump q c.command.ensures.words refl i))))

@@ -1,35 +1,9 @@
 -- `forms::operator` meets its contract. Assumes nothing.
-use mathlib.Core.Path.{refl}
-use native.Mathlib.Omega.{arith}
-use Rattle.gil.specs.Tree.{plus, minus, equal, less, and, or}
-use Rattle.machine_code.specs.Code.{op_word}
-use Rattle.text_forms.specs.Laws.Seeing.{op_goes, op_fails, op_by, op_by_key}
-use Rattle.text_words.specs.Mirror.Kinds.{and_token, or_token}
+use Rattle.text_forms.specs.Laws.Seeing.{op-goes, op-fails}
 use Rattle.text_forms.proofs.forms.operator.Goals as goal
 
-pub returns-in-43 : goal.returns-in-43
-unfolding op_by op_by_key op_word
-returns-in-43 c = (op_goes c.token-t.ensures plus 43 c.in-43.is refl refl (λ z. omega arith), omega arith)
+pub returns-in_err-operator : goal.returns-in_err-operator
+returns-in_err-operator c = rw c.from_residual.ensures (op-fails c.token-t.ensures (λ x q. c.in_err-operator.ensures c.args.text.now x q))
 
-pub returns-in-45 : goal.returns-in-45
-unfolding op_by op_by_key op_word
-returns-in-45 c = (op_goes c.token-t.ensures minus 45 c.in-45.is refl refl (λ z. omega arith), omega arith)
-
-pub returns-in-61 : goal.returns-in-61
-unfolding op_by op_by_key op_word
-returns-in-61 c = (op_goes c.token-t.ensures equal 61 c.in-61.is refl refl (λ z. omega arith), omega arith)
-
-pub returns-in-60 : goal.returns-in-60
-unfolding op_by op_by_key op_word
-returns-in-60 c = (op_goes c.token-t.ensures less 60 c.in-60.is refl refl (λ z. omega arith), omega arith)
-
-pub returns-in-279 : goal.returns-in-279
-unfolding op_by op_by_key op_word
-returns-in-279 c = (op_goes c.token-t.ensures and and_token c.in-279.is refl refl (λ z. omega arith), omega arith)
-
-pub returns-in-280 : goal.returns-in-280
-unfolding op_by op_by_key op_word
-returns-in-280 c = (op_goes c.token-t.ensures or or_token c.in-280.is refl refl (λ z. omega arith), omega arith)
-
-pub returns-in_default : goal.returns-in_default
-returns-in_default c = (op_fails c.token-t.ensures c.in_default.in_default-own.rest.0.0.0.0.0.1 c.in_default.in_default-own.rest.0.0.0.0.1 c.in_default.in_default-own.rest.0.0.0.1 c.in_default.in_default-own.rest.0.0.1 c.in_default.in_default-own.rest.0.1 c.in_default.in_default-own.rest.1 c.stop.ensures, omega arith)
+pub returns : goal.returns
+returns c = op-goes c.token-t.ensures c.in_ok-operator.operator (λ x q. c.in_ok-operator.ensures c.args.text.now x q)

@@ -1,17 +1,18 @@
 -- `lists::procedures_of` meets its contract. Assumes nothing.
-use native.Mathlib.Omega.{arith}
-use Rattle.text_procedures.specs.Steps.Items.{moved}
+use Rattle.std.proofs.Common.{refl, ◌∙◌, arith}
+use Rattle.text_forms.specs.Laws.Goes.{was_read}
+use Rattle.text_forms.specs.Laws.Seeing.{ended-seen, ended-not, seen-as}
 use Rattle.text_procedures.specs.Steps.Procedures.{round_none, round_fault, round_last, round_more}
 use Rattle.text_procedures.proofs.lists.procedures_of.Goals as goal
 
-pub loop-t-init : goal.loop-t-init
-loop-t-init c = (round_none, omega arith, omega arith)
+pub loop-declared-init : goal.loop-declared-init
+loop-declared-init c = rw c.requires (round_none, refl, omega arith)
 
-pub returns-then-t-text : goal.returns-then-t-text
-returns-then-t-text c = round_fault c.loop-t.invariant.0 (moved c.counted-t.ensures.0 c.procedure_of-d.ensures.0) c.if-t-text.true
+pub returns-in_err-declared-clause-read : goal.returns-in_err-declared-clause-read
+returns-in_err-declared-clause-read c = rw c.from_residual.ensures (round_fault c.loop-declared.invariant.0 c.in_err-declared.ensures.read)
 
-pub returns-then-after-eq-ENDED : goal.returns-then-after-eq-ENDED
-returns-then-after-eq-ENDED c = round_last c.loop-t.invariant.0 (moved c.counted-t.ensures.0 c.procedure_of-d.ensures.0) c.if-t-text.false c.token-after.ensures c.counted-t.ensures.1 c.counted-t.ensures.2 c.counted-t.ensures.3 c.counted-t.ensures.4 c.counted-t.ensures.5 c.if-after-eq-ENDED.true
+pub returns-in-Ended-clause-read : goal.returns-in-Ended-clause-read
+returns-in-Ended-clause-read c = round_last c.loop-declared.invariant.0 (was_read c.in_ok-declared.ensures.read) c.counted-tally.ensures.0 c.counted-tally.ensures.1 c.counted-tally.ensures.2 c.counted-tally.ensures.3 c.counted-tally.ensures.4 _ (λ ps t. t) (ended-seen (seen-as c.token.ensures c.in-Ended.is))
 
-pub loop-t-preserved : goal.loop-t-preserved
-loop-t-preserved c = (round_more c.loop-t.invariant.0 (moved c.counted-t.ensures.0 c.procedure_of-d.ensures.0) c.if-t-text.false c.token-after.ensures c.counted-t.ensures.1 c.counted-t.ensures.2 c.counted-t.ensures.3 c.counted-t.ensures.4 c.counted-t.ensures.5 c.if-after-eq-ENDED.false, c.procedure_of-d.ensures.1, omega (arith, c.loop-t.invariant.2, c.counted-t.ensures.1, c.counted-t.ensures.2, c.procedure_of-d.ensures.2))
+pub loop-declared-preserved : goal.loop-declared-preserved
+loop-declared-preserved c = (round_more c.loop-declared.invariant.0 (was_read c.in_ok-declared.ensures.read) c.counted-tally.ensures.0 c.counted-tally.ensures.1 c.counted-tally.ensures.2 c.counted-tally.ensures.3 c.counted-tally.ensures.4 (ended-not c.token.ensures.seen c.in_default.not-Ended), c.in_ok-declared.ensures.same ∙ c.loop-declared.invariant.1, omega (arith, c.loop-declared.invariant.2, c.counted-tally.ensures.0, c.counted-tally.ensures.1, c.in_ok-declared.ensures.short))

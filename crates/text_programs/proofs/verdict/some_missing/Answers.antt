@@ -1,20 +1,22 @@
 -- `verdict::some_missing` meets its contract. Assumes nothing.
-use mathlib.Core.Path.{sym, ◌∙◌}
-use native.Mathlib.Omega.{arith}
-use Rattle.text_programs.specs.Steps.Verdict.{lost-many, lost-all, lost-none, lost-here, lost-on}
+use Rattle.std.specs.Prelude.{ℕ, ◌≡◌, not, take, map}
+use Rattle.std.specs.List.{list_any}
+use Rattle.std.proofs.Common.{rules, tests, ap, ◌∙◌}
+use Rattle.std.proofs.lemmas.Iterator.{YieldsList-from_slice}
+use Rattle.std.proofs.lemmas.Iterator.Search.{any_from_yields_List}
+use Rattle.gil.specs.Tree.{Name}
+use Rattle.gil.specs.Names.{any, has}
+use Rattle.text_tokens.specs.Mirror.Seen.{name_at}
+use Rattle.text_names.specs.Mirror.Tables.{known}
+use Rattle.text_programs.specs.Mirror.Verdict.{any_lost}
+use Rattle.text_programs.specs.Steps.Verdict.{list-any, any-map}
 use Rattle.text_programs.proofs.verdict.some_missing.Goals as goal
 
-pub returns-then-m-gt-MOST_PROCEDURES : goal.returns-then-m-gt-MOST_PROCEDURES
-returns-then-m-gt-MOST_PROCEDURES c = λ lc lp. lost-many c.args.text.now c.args.calls.now c.args.procs.now c.args.n c.wide-m.result c.wide-m.ensures.0 c.if-m-gt-MOST_PROCEDURES.true
-
-pub loop-i-init : goal.loop-i-init
-loop-i-init c = (c.if-m-gt-MOST_PROCEDURES.false, omega arith, c.wide-m.ensures.0, λ lc lp. lost-all c.args.text.now c.args.calls.now c.args.procs.now c.args.n c.wide-m.result c.wide-m.ensures.0 c.if-m-gt-MOST_PROCEDURES.false lc)
-
-pub returns-then-at-n : goal.returns-then-at-n
-returns-then-at-n c = λ lc lp. lost-here c.args.text.now c.args.calls.now c.args.procs.now c.args.n c.wide-m.result c.wide-m.ensures.0 c.if-m-gt-MOST_PROCEDURES.false lc c.loop-i.i c.find-at.result c.loop-i-test.true (c.find-at.ensures.0 lp) c.if-at-n.true ∙ sym (c.loop-i.invariant.3 lc lp)
-
-pub loop-i-preserved : goal.loop-i-preserved
-loop-i-preserved c = (c.loop-i.invariant.0, omega arith, c.loop-i.invariant.2, λ lc lp. c.loop-i.invariant.3 lc lp ∙ lost-on c.args.text.now c.args.calls.now c.args.procs.now c.args.n c.wide-m.result c.wide-m.ensures.0 c.if-m-gt-MOST_PROCEDURES.false lc c.loop-i.i c.find-at.result c.loop-i-test.true (c.find-at.ensures.0 lp) c.if-at-n.false)
-
 pub returns : goal.returns
-returns c = λ lc lp. lost-none c.args.text.now c.args.calls.now c.args.procs.now c.args.n c.wide-m.result c.wide-m.ensures.0 c.if-m-gt-MOST_PROCEDURES.false lc c.loop-i.i c.loop-i-test.false c.loop-i.invariant.1 ∙ sym (c.loop-i.invariant.3 lc lp)
+unfolding any_lost known
+returns c =
+    let e : c.any.result ≡ list_any (λ p. not (has (name_at c.args.text.now p) (known c.args.text.now c.args.procs.now))) (take c.min-count.result c.args.calls.now.places) = any_from_yields_List (λ p. not (has (name_at c.args.text.now p) (known c.args.text.now c.args.procs.now))) _ _ c.any.result c.any.ensures.ran (YieldsList-from_slice _ c.iter.ensures.rest) (λ x b q k. search (rules, tests)) in
+    e
+    ∙ list-any _ (take c.min-count.result c.args.calls.now.places)
+    ∙ any-map (λ (w : Name). not (has w (known c.args.text.now c.args.procs.now))) (name_at c.args.text.now) (take c.min-count.result c.args.calls.now.places)
+    ∙ ap (λ (n : ℕ). any (λ (w : Name). not (has w (known c.args.text.now c.args.procs.now))) (map (name_at c.args.text.now) (take n c.args.calls.now.places))) c.min-count.ensures

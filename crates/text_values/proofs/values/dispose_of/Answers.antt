@@ -1,8 +1,22 @@
 -- `values::dispose_of` meets its contract. Assumes nothing.
-use Rattle.text_values.specs.Steps.Forms.{dispose-goes}
+use Rattle.std.proofs.Common.{refl}
+use Rattle.gil.specs.Reading.{◌>>=◌, ◌>>◌, dispose_of, expr}
+use Rattle.text_forms.specs.Laws.Goes.{stops, first, then, ended}
 use Rattle.text_values.specs.Steps.Effects.{sets-dispose}
-use mathlib.Core.Path.{refl}
 use Rattle.text_values.proofs.values.dispose_of.Goals as goal
 
-pub returns : goal.returns
-returns c = (λ v p k. dispose-goes v (λ e q. sets-dispose q refl) c.mark-a.ensures c.expr-e.ensures.0 c.mark.ensures, c.expr-e.ensures.1)
+pub returns-in_err-at-clause-read : goal.returns-in_err-at-clause-read
+unfolding dispose_of ◌>>◌
+returns-in_err-at-clause-read c = λ v p k. rw c.from_residual.ensures (stops _ c.in_err-at.ensures)
+
+pub returns-in_err-at-2-clause-read : goal.returns-in_err-at-2-clause-read
+unfolding dispose_of ◌>>=◌ ◌>>◌ expr
+returns-in_err-at-2-clause-read c = λ v p k. rw c.from_residual-in_err-at-2.ensures (first _ c.in_ok-at.ensures (λ u w q. stops _ c.in_err-at-2.ensures.read))
+
+pub returns-in_err-at-3-clause-read : goal.returns-in_err-at-3-clause-read
+unfolding dispose_of ◌>>=◌ ◌>>◌ expr
+returns-in_err-at-3-clause-read c = λ v p k. rw c.from_residual-in_err-at-3.ensures (first _ c.in_ok-at.ensures (λ u w q. then _ c.in_ok-at-2.ensures.read (λ e we qe. stops _ c.in_err-at-3.ensures)))
+
+pub returns-clause-read : goal.returns-clause-read
+unfolding dispose_of ◌>>=◌ ◌>>◌ expr
+returns-clause-read c = λ v p k. first _ c.in_ok-at.ensures (λ u w q. then _ c.in_ok-at-2.ensures.read (λ e we qe. then _ c.in_ok-at-3.ensures (λ u′ w′ q′. ended _ _ w′ (sets-dispose qe refl))))
