@@ -15,6 +15,7 @@ use gil::layout::TERM_BYTES;
 use gil::limits::MOST_TERMS;
 use gil::tags::Tag;
 use lent_words::{at_most, word_at};
+use machine_values::Input;
 use print_values::{Leaf, constant, kind, op_text, put_value};
 use print_writing::Page;
 
@@ -75,7 +76,7 @@ impl<'a> Fields<'a> {
         ensures { result ≡ node_size self.now.sizes (kind_number kind) t x u y }
     {
         match kind {
-            TermKind::Input => Leaf::Input(x).size(),
+            TermKind::Input => Leaf::Input(Input(x)).size(),
             TermKind::Not => 4 + self.value_size(t, x),
             op => 2 + self.value_size(t, x) + op_text(op).len() as u32 + self.value_size(u, y),
         }

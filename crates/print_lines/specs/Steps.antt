@@ -4,6 +4,7 @@ use Rattle.std.proofs.Common.{◌∙◌, ap, ap₂}
 use Rattle.gil.specs.Numbers.{most_terms, most_rows}
 use Rattle.gil.specs.Printed.{heading}
 use Rattle.lent_words.specs.Mirror.{at_most}
+use Rattle.text_names.specs.declared.Names.{Names}
 use Rattle.print_writing.specs.declared.Page.{Page}
 use Rattle.print_writing.specs.Mirror.{Writes}
 use Rattle.print_writing.specs.Laws.{write_on, writes_as}
@@ -13,7 +14,7 @@ use Rattle.print_parts.specs.Mirror.{runs}
 use Rattle.lent_words.specs.Mirror.{word_at}
 
 pub table-by :
-    (text names table pool : List ℕ) {pool' ss : List ℕ} {p q r : Page} {terms rows n : ℕ} → terms ≡ word_at table 4 → pool' ≡ pool
+    (text : List ℕ) (names : Names) (table pool : List ℕ) {pool' ss : List ℕ} {p q r : Page} {terms rows n : ℕ} → terms ≡ word_at table 4 → pool' ≡ pool
     → ss ≡ sizes_to pool no_sizes (at_most most_terms terms) → rows ≡ word_at table 0 → n ≡ at_most most_rows rows → Writes p heading q
     → Writes q (runs (row_form text names table pool' ss) 0 n) r → Writes p (table_form text names table pool) r
 unfolding table_form sizes_in

@@ -13,17 +13,13 @@ use lent_words::{at_most, word_at};
 use print_fields::Fields;
 use print_parts::Row;
 use print_writing::{Page, Text};
-use text_names::NAMES_WORDS;
-use text_tokens::lexemes::LENGTH_RANGE;
-
-// A name's place in the text, times this, and its length are one word
-const LENGTHS: u32 = LENGTH_RANGE as u32;
+use text_names::Names;
 
 // A text, and where it has the names of its procedures (crates/text_names)
 #[derive(Drop)]
 struct Named<'a> {
     text: &'a [u8],
-    names: &'a [u32; NAMES_WORDS],
+    names: &'a Names,
 }
 
 impl Named<'_> {
@@ -33,8 +29,8 @@ impl Named<'_> {
     {
         let k = f as usize;
         if k < limits::MOST_PROCEDURES {
-            let place = self.names[k];
-            page.put_part(self.text, place / LENGTHS, place % LENGTHS);
+            let place = self.names.places[k];
+            page.put_part(self.text, place.start, place.size);
         }
     }
 }
@@ -87,7 +83,7 @@ fn put_rows<'a>(page: &mut Page, named: &Named, table: &'a [u8], fields: &'a Fie
 // its pool that is document 01's printed table, for which 262,144 bytes are always enough.
 pub fn render<'a>(
     text: &'a [u8],
-    names: &'a [u32; NAMES_WORDS],
+    names: &'a Names,
     table: &'a [u8],
     pool: &'a [u8],
     out: &mut [u8],

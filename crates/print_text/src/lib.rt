@@ -4,10 +4,10 @@
 ghost use Rattle.print_text.specs.Promise.{Prints};
 
 use gil::layout::{POOL_BYTES, TABLE_BYTES};
-use gil::limits::{MOST_BRANCHES, MOST_STEPS};
+use gil::limits::{MOST_BRANCHES, MOST_PROCEDURES, MOST_STEPS};
 use machine_code::CODE_WORDS;
 use print_lines as printing;
-use text_names::NAMES_WORDS;
+use text_names::Names;
 use text_programs as programs;
 
 // "At most 262,144 bytes"
@@ -20,12 +20,13 @@ pub fn print_table(text: &[u8], out: &mut [u8]) -> usize
 {
     let mut table = [0u8; TABLE_BYTES];
     let mut pool = [0u8; POOL_BYTES];
-    let refusal = call_explore::explore(text, MOST_STEPS, MOST_BRANCHES, &mut table, &mut pool);
-    if refusal != 0 {
-        return printing::render_refusal(refusal, out);
+    let explored = call_explore::explore(text, MOST_STEPS, MOST_BRANCHES, &mut table, &mut pool);
+    if let Err(refusal) = explored {
+        return printing::render_refusal(refusal as u32, out);
     }
     let mut code = [0u32; CODE_WORDS];
-    let mut names = [0u32; NAMES_WORDS];
-    programs::verdict::read_program(text, &mut code, &mut names);
+    let mut names = Names::new(MOST_PROCEDURES);
+    // a text that was explored is accepted
+    let _ = programs::verdict::read_program(text, &mut code, &mut names);
     printing::render(text, &names, &table, &pool, out)
 }

@@ -1,9 +1,6 @@
 -- How long an operator's text may be, and the cases of a constant, a term and a value, which this crate's proofs and others cite. Assumes nothing.
-use Prim.Native.Nat.{ℕ, zero, suc, ◌+◌, ◌*◌, ◌-◌, ◌≤◌, ◌<◌}
-use Rattle.std.proofs.Common.{arith, sub-one, ◌∙◌}
-use Rattle.std.specs.Prelude.{◌≡◌, refl, Bool, true, false, List, [], ◌∷◌, ◌++◌, length, eqb}
-use Rattle.std.proofs.Math.Path.{ap}
-use borrow.Author.Tests.{lt-ltb, le-ltb, ne_eqb}
+use Rattle.std.specs.Prelude.{ℕ, zero, suc, ◌+◌, ◌*◌, ◌-◌, ◌≤◌, ◌<◌, ◌≡◌, refl, Bool, true, false, List, [], ◌∷◌, ◌++◌, length, eqb}
+use Rattle.std.proofs.Common.{arith, sub-one, ◌∙◌, ap, lt-ltb, le-ltb, ne_eqb}
 use Rattle.gil.specs.Text.{bytes}
 use Rattle.gil.specs.Numbers.{term_length, number_tag, boolean_tag, number_term_tag, input_kind, not_kind, plus_kind, minus_kind, equal_kind, less_kind, and_kind}
 use Rattle.gil.specs.Printed.{decimal}

@@ -11,8 +11,8 @@ use Rattle.print_values.specs.Mirror.{input_form, location_form}
 unfoldable pub leaf_form : Leaf → List ℕ
 leaf_form (Number n) = decimal n
 leaf_form (Truth b) = truth_text b
-leaf_form (Location k) = location_form k
-leaf_form (Input k) = input_form k
+leaf_form (Location k) = location_form k.0
+leaf_form (Input k) = input_form k.0
 
 truth_length : (b : Bool) → length (truth_text b) ≤ 11
 unfolding truth_text bytes
@@ -23,5 +23,5 @@ pub leaf_length : (l : Leaf) → length (leaf_form l) ≤ 11
 unfolding leaf_form
 leaf_length (Number n) = omega (arith, decimal-length n)
 leaf_length (Truth b) = truth_length b
-leaf_length (Location k) = omega (arith, decimal-length k)
-leaf_length (Input k) = omega (arith, decimal-length k)
+leaf_length (Location k) = omega (arith, decimal-length k.0)
+leaf_length (Input k) = omega (arith, decimal-length k.0)

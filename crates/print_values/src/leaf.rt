@@ -3,14 +3,15 @@ ghost use Rattle.std.specs.Prelude.{◌≡◌, ◌≤◌, length};
 ghost use Rattle.gil.specs.Printed.{truth_text};
 ghost use Rattle.print_values.specs.Leaves.{leaf_form};
 
+use machine_values::{Input, Location};
 use print_writing::{Page, Text, size_of};
 
 #[derive(Clone, Copy)]
 pub enum Leaf {
     Number(u32),
     Truth(bool),
-    Location(u32),
-    Input(u32),
+    Location(Location),
+    Input(Input),
 }
 
 fn truth_text(b: bool) -> &'static [u8]
@@ -27,13 +28,13 @@ impl Text for Leaf {
         match *self {
             Leaf::Number(n) => n.put_on(page),
             Leaf::Truth(b) => page.put_all(truth_text(b)),
-            Leaf::Location(n) => {
+            Leaf::Location(l) => {
                 page.put(b'$');
-                n.put_on(page);
+                l.0.put_on(page);
             }
-            Leaf::Input(n) => {
+            Leaf::Input(i) => {
                 page.put(b'#');
-                n.put_on(page);
+                i.0.put_on(page);
             }
         }
     }

@@ -16,6 +16,7 @@ use gil::layout::TERM_BYTES;
 use gil::tags::Tag;
 pub use leaf::Leaf;
 use lent_words::word_at;
+use machine_values::{Input, Location};
 use print_writing::{Page, Text};
 
 // A constant, by its tag and its word: a number, a truth, and what has any other tag a location
@@ -23,12 +24,12 @@ pub fn constant(tag: u32, x: u32) -> Leaf
     ensures { leaf_form result ≡ constant_form tag x }
 {
     let Ok(tag) = Tag::try_from(tag) else {
-        return Leaf::Location(x);
+        return Leaf::Location(Location(x));
     };
     match tag {
         Tag::Number => Leaf::Number(x),
         Tag::Boolean => Leaf::Truth(x != 0),
-        _ => Leaf::Location(x),
+        _ => Leaf::Location(Location(x)),
     }
 }
 
@@ -68,7 +69,7 @@ pub fn put_value(page: &mut Page, pool: &[u8], deep: u32, tag: u32, x: u32)
     let t = word_at(pool, k + 4);
     let a = word_at(pool, k + 8);
     match kind(word_at(pool, k)) {
-        TermKind::Input => Leaf::Input(a).put_on(page),
+        TermKind::Input => Leaf::Input(Input(a)).put_on(page),
         TermKind::Not => {
             page.put_all(b"not ");
             put_value(page, pool, deep - 1, t, a);

@@ -28,6 +28,7 @@ use Rattle.lent_words.specs.Laws.Rooms.{words-zeros, length-words}
 use Rattle.lent_words.specs.Laws.Parts.{words_before, part-there, part-word}
 use Rattle.lent_words.specs.Laws.Row.{head-fits, row_fits, row-words-long}
 use Rattle.print_parts.specs.Mirror.{runs, cut_form, outcome_form, unless_form, row_word, condition_form, further_form, conditions_form}
+use Rattle.text_names.specs.declared.Names.{Names}
 use Rattle.print_lines.specs.Mirror.{sizes_in, name_form, start_form, place_form, row_form, table_form}
 use Rattle.print_fields.specs.Mirror.{no_sizes, sizes_to, field_form}
 use Rattle.print_laws.specs.Laws.Printable.{RowFits, Printable}
@@ -80,7 +81,7 @@ module _ (w : Pool) (rows : List (Row Ref)) (rest : List ℕ) (few_terms : lengt
       ∙ ap (λ (x : Row Ref). get_or (row_words ref_tag place_in x) m 0) (first rows j r e)
 
 -- A table that is printable, and something after it and after its pool
-module _ (text names : List ℕ) (p : Program) (w : Pool) (rows : List (Row Ref)) (f : Printable text names p w rows) (rest rest' : List ℕ) where
+module _ (text : List ℕ) (names : Names) (p : Program) (w : Pool) (rows : List (Row Ref)) (f : Printable text names p w rows) (rest rest' : List ℕ) where
   abbrev table : List ℕ
   table = table_bytes w rows ++ rest
 

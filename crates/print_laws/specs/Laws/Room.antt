@@ -1,14 +1,14 @@
 -- "At most 262,144 bytes": every printable table's text fits, and so do the refusals; so what is written stands at the front of the memory,
 -- as far as there is room, and is counted whole. Assumes nothing.
-use Rattle.std.specs.Prelude.{ℕ, suc, ◌+◌, ◌*◌, ◌/◌, ◌%◌, ◌≤◌, ◌<◌, ◌≡◌, Bool, length, get_or, drop}
+use Rattle.std.specs.Prelude.{ℕ, suc, ◌+◌, ◌*◌, ◌≤◌, ◌<◌, ◌≡◌, Bool, length}
 use native.Mathlib.Omega.{arith}
-use Rattle.std.proofs.Common.{◌∙◌, ap, length-take}
+use Rattle.std.proofs.Common.{◌∙◌, ap}
 use Rattle.std.proofs.Math.Bool.{true, false}
 use mathlib.Core.List.{List, [], ◌∷◌, ◌++◌}
 use Rattle.std.proofs.Math.Option.{Option}
 use Rattle.std.proofs.Math.ListN.{length-append}
 use Rattle.gil.specs.Numbers.{most_branches}
-use Rattle.gil.specs.Text.{bytes, part}
+use Rattle.gil.specs.Text.{bytes}
 use Rattle.gil.specs.Names.{Program}
 use Rattle.gil.specs.Values.{Value, term}
 use Rattle.gil.specs.Machine.{procedure_at, End, returned, failed, vanished, error}
@@ -17,14 +17,14 @@ use Rattle.gil.specs.Explore.{explored}
 use Rattle.gil.specs.Pool.{Ref, Pool}
 use Rattle.gil.specs.Layout.{pool_bytes, table_bytes}
 use Rattle.gil.specs.Printed.{pool_texts, or_large, value_field, end_fields, outcome_fields, unless_true, condition_text, conditions_after, conditions_field, line_end, row_line, row_lines, heading, refusal_line, explored_text}
-use Rattle.text_words.specs.Mirror.Kinds.{length_range}
+use Rattle.text_names.specs.declared.Names.{Names}
 use Rattle.machine_code.specs.WellFormed.{Each}
 use Rattle.machine_code.specs.WellFormed as each
 use Rattle.print_writing.specs.Mirror.{last_place, Wrote}
 use Rattle.print_writing.specs.Laws.{wrote_as, Front, front, decimal-length}
 use Rattle.print_fields.specs.Mirror.{longest}
 use Rattle.print_lines.specs.Mirror.{table_form}
-use Rattle.print_laws.specs.Laws.Printable.{RowFits, Printable}
+use Rattle.print_laws.specs.Laws.Printable.{RowFits, name_range, Printable}
 use Rattle.print_laws.specs.Laws.Texts.{Short, large, short, Shorts, value-short, pool-shorts}
 use Rattle.print_laws.specs.Laws.Lines.{table_law}
 
@@ -74,7 +74,7 @@ module _ (p : Program) (ts : List (Option (List ℕ))) (f : Shorts ts) where
   conditions-length (c ∷ cs) = simp length-append (omega (arith, condition-length c, after-length cs))
 
   line-length :
-      (k : ℕ) (r : Row Ref) → length r.conditions ≤ most_branches → length (procedure_at p r.procedure).name < length_range
+      (k : ℕ) (r : Row Ref) → length r.conditions ≤ most_branches → length (procedure_at p r.procedure).name < name_range
       → length (row_line p ts k r) ≤ 3577
   unfolding row_line line_end
   line-length k r h i =
@@ -82,7 +82,7 @@ module _ (p : Program) (ts : List (Option (List ℕ))) (f : Shorts ts) where
       (omega (arith, decimal-length k, outcome-length r.outcome, decimal-length r.steps, decimal-length r.command, conditions-length r.conditions))
 
   lines-length :
-      {n : ℕ} {rows : List (Row Ref)} (k : ℕ) → Each (RowFits n) rows → ((g : ℕ) → g < n → length (procedure_at p g).name < length_range)
+      {n : ℕ} {rows : List (Row Ref)} (k : ℕ) → Each (RowFits n) rows → ((g : ℕ) → g < n → length (procedure_at p g).name < name_range)
       → length (row_lines p ts k rows) ≤ 3577 * length rows
   unfolding row_lines
   lines-length k each.none n = omega arith
@@ -90,22 +90,13 @@ module _ (p : Program) (ts : List (Option (List ℕ))) (f : Shorts ts) where
       simp length-append
       (omega (arith, line-length k a g.within.conditions (n a.procedure g.procedure), lines-length (suc k) gs n))
 
--- a name's length is a place's last five bits
-name-length :
-    (text names : List ℕ) (p : Program) (w : Pool) (rows : List (Row Ref)) → Printable text names p w rows → (g : ℕ)
-    → g < length p.procedures → length (procedure_at p g).name < length_range
-unfolding part
-name-length text names p w rows f g h =
-    let n : ℕ = get_or names g 0 in
-    rw (← f.named g h) (omega (arith, length-take (n % length_range) (drop (n / length_range) text)))
-
 pub table-room :
-    (text names : List ℕ) (p : Program) (w : Pool) (rows : List (Row Ref)) → Printable text names p w rows
+    (text : List ℕ) (names : Names) (p : Program) (w : Pool) (rows : List (Row Ref)) → Printable text names p w rows
     → length (explored_text p (explored w rows)) ≤ printed_length
 unfolding explored_text heading bytes line_end
 table-room text names p w rows f =
     omega
-    (arith, f.few_rows, lines-length p (pool_texts w) (pool-shorts w [] f.few_terms f.terms_fit) 0 f.rows_fit (name-length text names p w rows f))
+    (arith, f.few_rows, lines-length p (pool_texts w) (pool-shorts w [] f.few_terms f.terms_fit) 0 f.rows_fit f.short)
 
 pub refusal-room : (n : ℕ) → length (refusal_line n) ≤ 20
 unfolding refusal_line bytes line_end
@@ -116,7 +107,7 @@ pub refuses : (n : ℕ) {b b' : List ℕ} {r : ℕ} → length b ≤ last_place 
 refuses n held w = front (omega (arith, refusal-room n)) held w
 
 pub renders :
-    (text names : List ℕ) {table pool b b' : List ℕ} {r : ℕ} (p : Program) (w : Pool) (rows : List (Row Ref)) (rest rest' : List ℕ)
+    (text : List ℕ) (names : Names) {table pool b b' : List ℕ} {r : ℕ} (p : Program) (w : Pool) (rows : List (Row Ref)) (rest rest' : List ℕ)
     → Printable text names p w rows
     → table ≡ table_bytes w rows ++ rest
     → pool ≡ pool_bytes w ++ rest'

@@ -1,9 +1,7 @@
 -- From what `explore` leaves to the printed table: the laws that the proof of `print_table` cites. Assumes nothing.
 use Rattle.std.specs.Prelude.{ℕ, ◌≤◌, ◌<◌, ◌≡◌, false, List, ◌++◌, length, get_or, drop, replicate}
-use Rattle.std.proofs.Common.{arith, sym, ◌∙◌}
-use Rattle.std.proofs.Math.Path.{refl, ap, subst}
+use Rattle.std.proofs.Common.{arith, refl, ap, subst, sym, ◌∙◌, le-ltb}
 use Rattle.std.proofs.lemmas.List.{length-replicate}
-use borrow.Author.Tests.{le-ltb}
 use Rattle.gil.specs.Names.{Program, accepted, check_text}
 use Rattle.gil.specs.Machine.{procedure_at}
 use Rattle.gil.specs.Rows.{Row}
@@ -18,12 +16,14 @@ use Rattle.machine_code.proofs.Accepted.{accepted_well_formed}
 use Rattle.print_writing.specs.Mirror.{last_place, Wrote}
 use Rattle.print_writing.specs.Laws.{Front, whole}
 use Rattle.text_tokens.specs.Mirror.Seen.{name_at}
-use Rattle.print_lines.specs.Mirror.{table_form}
+use Rattle.text_names.specs.declared.Names.{Names}
+use Rattle.print_lines.specs.Mirror.{nowhere, table_form}
 use Rattle.print_laws.specs.Laws.Printable.{Printable}
 use Rattle.print_laws.specs.Laws.Room.{table-room, refusal-room, refuses, renders}
 use Rattle.call_given.specs.Laws.{Judged, turned_down, taken_up, judged, first-text}
 use Rattle.table_locate.specs.Laws.Exploring.{exploring-numbered}
 use Rattle.print_text.specs.Promise.{Prints}
+use Rattle.print_text.specs.Steps.Short.{names_short}
 use Rattle.print_text.specs.Steps.Explored.{explored_printable}
 
 -- what the call `explore` comes to, with room in the memory lent: the number of a refusal, or a table and its pool
@@ -72,12 +72,12 @@ refusal-prints {text} {b} {b'} {r} n e held w =
     record { front = g; whole = λ h. whole g (rw e (omega (arith, refusal-room n))) }
 
 -- the names of an accepted program's procedures, where a table of names has their places
-abbrev pub Named : (text names : List ℕ) → Type 0
+abbrev pub Named : List ℕ → Names → Type 0
 Named text names =
-    (p : Program) → check_text text ≡ accepted p → (k : ℕ) → k < length p.procedures → name_at text (get_or names k 0) ≡ (procedure_at p k).name
+    (p : Program) → check_text text ≡ accepted p → (k : ℕ) → k < length p.procedures → name_at text (get_or names.places k nowhere) ≡ (procedure_at p k).name
 
 table-prints :
-    (names : List ℕ) {text table' pool b b' : List ℕ} {r : ℕ} (p : Program) (w : Pool) (rows : List (Row Ref)) (rest rest' : List ℕ)
+    (names : Names) {text table' pool b b' : List ℕ} {r : ℕ} (p : Program) (w : Pool) (rows : List (Row Ref)) (rest rest' : List ℕ)
     → check_text text ≡ accepted p
     → table p most_steps most_branches ≡ explored w rows
     → printed text ≡ explored_text p (explored w rows)
@@ -89,7 +89,7 @@ table-prints :
     → Prints text b b' r
 table-prints names {text} {b = b} {b' = b'} {r = r} p w rows rest rest' e f i g g' named held d =
     let h : Printable text names p w rows =
-    explored_printable text names most_steps most_branches (accepted_well_formed text p e) (omega arith) (omega arith) f (named p e) in
+    explored_printable text names most_steps most_branches (accepted_well_formed text p e) (omega arith) (omega arith) f (named p e) (names_short text p e) in
     let t : Front (explored_text p (explored w rows)) b b' r = renders text names p w rows rest rest' h g g' held d in
     record { front = rw i t; whole = λ room. rw i (whole t (omega (arith, table-room text names p w rows h))) }
 
@@ -119,7 +119,7 @@ module _ (text : List ℕ) {q : ℕ} {table' pool : List ℕ}
       go (is_explored p w rows rest rest' e x y g g') = absurd (z y)
 
   pub prints-table :
-      (names : List ℕ) {b b' : List ℕ} {r : ℕ} → q ≡ 0 → Named text names → length b ≤ last_place → Wrote b 0 (table_form text names table' pool) b' r
+      (names : Names) {b b' : List ℕ} {r : ℕ} → q ≡ 0 → Named text names → length b ≤ last_place → Wrote b 0 (table_form text names table' pool) b' r
       → Prints text b b' r
   prints-table names {b} {b'} {r} z named held d = go come
     where
