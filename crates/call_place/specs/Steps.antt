@@ -97,7 +97,8 @@ module _ (text inputs : List ℕ) (steps branches : ℕ) (t w : List ℕ) where
                       → IsSomeAnd o (λ k. first_row + k ≡ places_in inputs terms rows)
                       → IsSomeAnd o (λ k. (k < most_rows) × Places (first_row + k) t' w')
                   row None a b f h = h
-                  row (Some k) a b (is, below) h =
-                      (omega (arith, below, at_most-min most_rows (word_at t' 0)),
-                      answers_are (places_in inputs) left (subst (λ e. ◌≡◌ {A = TableAnswer} (record { returns = first_row + k; table = t'; pool = w' }) (tables_after (places_in inputs) t w e)) (sym g)
-                      (tables_are (tables_after (places_in inputs) t w (Explore.explored terms rows)) h a b refl)))
+                  row (Some k) a b (is, below) h = (
+                    omega (arith, below, at_most-min most_rows (word_at t' 0)),
+                    answers_are (places_in inputs) left (subst (λ e. ◌≡◌ {A = TableAnswer} (record { returns = first_row + k; table = t'; pool = w' }) (tables_after (places_in inputs) t w e)) (sym g)
+                        (tables_are (tables_after (places_in inputs) t w (Explore.explored terms rows)) h a b refl)),
+                  )

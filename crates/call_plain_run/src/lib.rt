@@ -21,12 +21,7 @@ fn wrong_lists(inputs: &[u8], answer: usize) -> bool
     given::wrong_inputs(inputs) || answer < ANSWER_BYTES
 }
 
-pub fn plain_run(
-    text: &[u8],
-    inputs: &[u8],
-    steps: u32,
-    answer: &mut [u8],
-) -> Result<(), Refusal>
+pub fn plain_run(text: &[u8], inputs: &[u8], steps: u32, answer: &mut [u8]) -> Result<(), Refusal>
     ensures { Promise (plain_run text.now inputs.now steps answer.old) (record { returns = answer_of result; answer = answer.new }) }
 {
     let budget = given::wrong_budget(steps);
