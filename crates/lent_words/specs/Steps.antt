@@ -1,9 +1,11 @@
--- What the functions' own proofs cite: a word that does not lie in the memory whole, four bytes as a word, bytes put in the place of others. Assumes nothing.
-use Rattle.std.specs.Prelude.{ℕ, ◌+◌, ◌≤◌, ◌<◌, ◌%◌, ◌/◌, ◌≡◌, List, [], ◌∷◌, ◌++◌, length, take, drop}
-use Rattle.std.proofs.Common.{sym, ◌∙◌, ap}
-use Rattle.std.proofs.lemmas.List.Edits.{sets, sets-eq}
+-- What the functions' own proofs cite: a word that does not lie in the memory whole, four bytes as a word, bytes put in the place of others, bytes
+-- zeroed from the front. Assumes nothing.
+use Rattle.std.specs.Prelude.{ℕ, ◌+◌, ◌≤◌, ◌<◌, ◌%◌, ◌/◌, ◌≡◌, List, [], ◌∷◌, ◌++◌, length, set, take, drop, replicate}
+use Rattle.std.proofs.Common.{sym, ◌∙◌, ap, append-nil}
+use Rattle.std.proofs.lemmas.List.Edits.{sets, sets-eq, fill_more}
 use Rattle.std.proofs.lemmas.List.{append_assoc, drop-drop}
 use Rattle.std.proofs.lemmas.Bool.{lt-leb}
+use Rattle.std.proofs.Math.Seq.{drop-length}
 use Rattle.gil.specs.Layout.{word_bytes}
 use Rattle.lent_words.specs.Mirror.{word_at, put_word}
 use Rattle.lent_words.specs.Laws.Words.{put_word_in}
@@ -28,3 +30,11 @@ pasted b ys at k e h =
     ap (λ (t : List ℕ). take at b ++ (ys ++ t)) (drop-drop k at b ∙ ap (λ (n : ℕ). drop (at + n) b) e)
     ∙ sym (append_assoc (take at b) ys (drop (at + length ys) b))
     ∙ sym (sets-eq ys b at h)
+
+-- what zeroes from the front: one byte more, and all of them
+pub zeroed-more : (b₀ b : List ℕ) (i : ℕ) → i < length b₀ → b ≡ replicate i 0 ++ drop i b₀ → set b i 0 ≡ replicate (i + 1) 0 ++ drop (i + 1) b₀
+zeroed-more b₀ b i h e = ap (λ (l : List ℕ). set l i 0) e ∙ fill_more i 0 b₀ h
+
+pub zeroed-all : (b₀ b : List ℕ) (i : ℕ) → i ≡ length b₀ → b ≡ replicate i 0 ++ drop i b₀ → b ≡ replicate (length b₀) 0
+zeroed-all b₀ b i h e =
+    e ∙ ap (λ (k : ℕ). replicate k 0 ++ drop k b₀) h ∙ rw (drop-length, append-nil)

@@ -1,8 +1,8 @@
-// Words in bytes, "four a word, lowest first": read and written where they stand in lent memory. All but `set_word` are total: a word
+// Words in bytes, "four a word, lowest first": read, written and zeroed where they stand in lent memory. All but `set_word` are total: a word
 // that does not lie in the memory whole reads as 0, and a store of one does nothing. Beside them what every reader of such words needs.
 #![tactic(auto)]
 
-ghost use Rattle.std.specs.Prelude.{◌≡◌, ◌+◌, ◌<◌, ◌≤◌, length};
+ghost use Rattle.std.specs.Prelude.{◌≡◌, ◌+◌, ◌<◌, ◌≤◌, length, replicate};
 ghost use Rattle.std.proofs.lemmas.List.Edits.{sets};
 ghost use Rattle.gil.specs.Layout.{word_bytes};
 ghost use Rattle.lent_words.specs.Mirror.{word_at, put_word, at_most};
@@ -39,4 +39,11 @@ pub fn put_word(b: &mut [u8], at: usize, x: u32)
     if at.saturating_add(4) <= b.len() {
         set_word(b, at, x);
     }
+}
+
+// All of it zero.
+pub fn zero(b: &mut [u8])
+    ensures { b.new ≡ replicate (length b.old) 0 }
+{
+    b.fill(0);
 }
