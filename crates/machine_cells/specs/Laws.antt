@@ -2,5 +2,7 @@
 pub mod InUse
 pub mod Order
 pub mod Searched
+pub mod Putting
 pub mod Served
 pub mod Written
+pub mod Done

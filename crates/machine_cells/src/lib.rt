@@ -1,12 +1,13 @@
 // The memory: "Cells are kept in order of location, then of property by its first place in the text". Up to 32 cells stand in an array, the
 // first `held` of them in use and in order (specs/Laws/Order.antt). Contracts see a memory as the list of the cells in use; what is found in it, put
-// in and taken out is Machine's `cell_at`, `put_cell` and `without_cells` over that list (specs/Laws/Served.antt).
+// in and taken out is Machine's `cell_at`, `put_cell` and `without_cells` over that list (specs/Laws/Done.antt).
 #![tactic(auto)]
 
-ghost use Rattle.std.specs.Prelude.{◌≡◌, ◌≤◌, [], length, map, MatchResult};
+ghost use Rattle.std.specs.Prelude.{◌≡◌, ◌<◌, ◌≤◌, [], length, map, drop, MatchResult};
 ghost use Rattle.gil.specs.Numbers.{most_cells};
 ghost use Rattle.gil.specs.Machine.{without_cells};
-ghost use Rattle.machine_cells.specs.Mirror.{cell_of, held_in, against, StandsAt, LacksAt};
+ghost use Rattle.machine_cells.specs.Mirror.{cell_of, held_in, against, StandsAt, LacksAt, EndsAt, carried_in};
+ghost use Rattle.machine_cells.specs.Laws.Order.{Ordered};
 ghost use Rattle.machine_cells.specs.Laws.Served.{looked_in, mutated_in, put_in, given_by, left_by};
 
 use gil::errors::Error;
@@ -110,7 +111,7 @@ impl Memory {
     fn find(&self, l: Location, q: u32) -> Result<usize, usize>
         ensures { MatchResult result (StandsAt l.0 q self.now) (LacksAt l.0 q self.now) }
     {
-        self.cells[..self.held].binary_search_by(|c| c.against(l, q))
+        search(&self.cells[..self.held], l, q)
     }
 
     // "`lookup` gives the cell's value": "3 no such cell"
@@ -134,8 +135,7 @@ impl Memory {
                 if self.held == CELLS {
                     return Err(Error::ThirtyThirdCell);
                 }
-                self.cells.copy_within(at..self.held, at + 1);
-                self.cells[at] = cell;
+                insert(&mut self.cells, at, self.held, cell);
                 self.held += 1;
             }
         }
@@ -149,11 +149,15 @@ impl Memory {
         self.held = remove(&mut self.cells, self.held, l);
     }
 
-    // What an action's variable is given, or the error; "Both of the last give `true`"
+    // What an action's variable is given, or the error; "Both of the last give `true`". Whatever is asked, the cells stay in order and at most 32.
     pub fn serve(&mut self, ask: Ask) -> Result<u64, Error>
         ensures gives { result ≡ given_by ask self.old }
         ensures leaves { self.new ≡ left_by ask self.old }
+        ensures ordered { Ordered self.new }
+        ensures few { length self.new ≤ most_cells }
     {
+        // so that this function's proof knows that they are so before
+        let _ = &self.held;
         match ask {
             Ask::Lookup { location, property } => self.lookup(location, property),
             Ask::Mutate {
@@ -173,11 +177,32 @@ impl Memory {
     }
 }
 
-// The cells of a location taken out, the others kept in order; how many are kept
-fn remove(cells: &mut [Cell], held: usize, l: Location) -> usize
+// Where the cell sought stands among cells in order, or the place before the first beyond it: each look halves what is left
+pub fn search(cells: &[Cell], l: Location, q: u32) -> Result<usize, usize>
+    requires { Ordered (map cell_of cells.now) }
+    ensures found { MatchResult result (StandsAt l.0 q (map cell_of cells.now)) (LacksAt l.0 q (map cell_of cells.now)) }
+    ensures place { MatchResult result (EndsAt l.0 q (map cell_of cells.now)) (EndsAt l.0 q (map cell_of cells.now)) }
+{
+    cells.binary_search_by(|c| c.against(l, q))
+}
+
+// A cell put in at a place; those from there up to `last` move up by one, and the last of them drops out
+pub fn insert(cells: &mut [Cell], at: usize, last: usize, cell: Cell)
+    requires { last < length cells.old }
+    ensures { cells.new ≡ carried_in at last cell cells.old }
+{
+    if at <= last {
+        cells.copy_within(at..last, at + 1);
+        cells[at] = cell;
+    }
+}
+
+// The cells of a location taken out of those in use, the others kept in order and those behind as they were; how many are kept
+pub fn remove(cells: &mut [Cell], held: usize, l: Location) -> usize
     requires { held ≤ length cells.old }
     ensures kept { result ≡ length (without_cells l.0 (held_in held cells.old)) }
     ensures cells { held_in result cells.new ≡ without_cells l.0 (held_in held cells.old) }
+    ensures behind { drop held cells.new ≡ drop held cells.old }
     ensures whole { length cells.new ≡ length cells.old }
 {
     let mut n: usize = 0;

@@ -1,9 +1,10 @@
--- What a search among cells in order finds, and what is put there: Machine's `cell_at` and `put_cell`. Assumes nothing.
-use Rattle.std.specs.Prelude.{ℕ, zero, suc, ◌<◌, ◌≤◌, Bool, true, false, ◌≡◌, refl, List, [], ◌∷◌, map, length, slice_index_or, Result, Ok, Err, MatchResult}
+-- What a search among cells in order finds, and what is put there: Machine's `cell_at` and `put_cell`. It ends where one from the front does.
+-- Assumes nothing.
+use Rattle.std.specs.Prelude.{ℕ, zero, suc, ◌+◌, ◌<◌, ◌≤◌, Bool, true, false, ◌||◌, ◌≡◌, refl, List, [], ◌∷◌, map, length, slice_index_or, Result, Ok, Err, MatchResult}
 use Rattle.std.specs.List.Sorted.{IsSearchInRange, IsBinarySearchResult, IsNonDecreasingBy}
 use Rattle.std.specs.declared.cmp.Ordering.TheVariants.{Less, Equal, Greater}
 use Rattle.std.specs.Ordering.{ordering_index}
-use Rattle.std.proofs.Common.{◌∙◌, ap, arith}
+use Rattle.std.proofs.Common.{sym, ◌∙◌, ap, arith}
 use Rattle.std.proofs.lemmas.List.Sorted.{IsNonDecreasingBy-from_default}
 use Rattle.std.proofs.lemmas.Bool.Decides.{nat_tests}
 use Rattle.std.proofs.Math.Decide.{dec_lt}
@@ -13,7 +14,8 @@ use Rattle.gil.specs.Values.{Value}
 use Rattle.gil.specs.Machine as Machine
 use Rattle.gil.specs.Machine.{is_at, is_before, cell_at, put_cell}
 use Rattle.machine_cells.specs.declared.Cell.{Cell}
-use Rattle.machine_cells.specs.Mirror.{cell_of, no_cell, cell, against, StandsAt, LacksAt}
+use Rattle.machine_cells.specs.Mirror.{cell_of, no_cell, cell, against, StandsAt, LacksAt, reaches, place_from, EndsAt}
+use Rattle.machine_cells.specs.Laws.InUse.{place_here, place-later}
 use Rattle.machine_cells.specs.Laws.Order.{Ahead, ahead, Ordered, behind, beyond_none}
 
 module _ (l q : ℕ) (c : Machine.Cell ℕ) (cs : List (Machine.Cell ℕ)) where
@@ -127,3 +129,47 @@ module _ (l q : ℕ) where
   searched ys o (Err i) h parted =
       let p = parted (rise ys o) in
       lacks i ys o h (λ k less. p.0 k no_cell (omega arith) less) (λ k le less. p.1 k no_cell le less)
+
+  -- a search from the front ends at a cell that it does not pass
+  reach-by : (c : Machine.Cell ℕ) {a b : Bool} → is_at l q c ≡ a → is_before l q c ≡ b → reaches l q c ≡ a || b
+  unfolding reaches
+  reach-by c e f = ap₂ (λ (a b : Bool). a || b) e f
+
+  ends_there : (i k : ℕ) (ys : List Cell) → Ordered (map cell_of ys) → i < length ys → is_at l q (cell_of (slice_index_or ys i no_cell)) ≡ true
+      → place_from l q k (map cell_of ys) ≡ k + i
+  ends_there i k [] o h e = absurd (omega arith)
+  ends_there zero k (y ∷ ys) o h e =
+      let z : k ≡ k + 0 = omega arith in
+      place_here l q k (cell_of y) (map cell_of ys) (reach-by (cell_of y) e refl) ∙ z
+  ends_there (suc i) k (y ∷ ys) (behind c cs a o) h e =
+      let p = passes l q y (slice_index_or ys i no_cell) (ahead_at y.location.0 y.property i ys a (omega arith)) e in
+      let z : suc k + i ≡ k + suc i = omega arith in
+      place-later l q k (cell_of y) (map cell_of ys) (reach-by (cell_of y) p.0 p.1) ∙ ends_there i (suc k) ys o (omega arith) e ∙ z
+
+  ends_before : (i k : ℕ) (ys : List Cell) → i ≤ length ys
+      → ((n : ℕ) → n < i → against l q (slice_index_or ys n no_cell) ≡ Less)
+      → ((n : ℕ) → i ≤ n → n < length ys → against l q (slice_index_or ys n no_cell) ≡ Greater)
+      → place_from l q k (map cell_of ys) ≡ k + i
+  unfolding place_from
+  ends_before zero k [] h low high = omega arith
+  ends_before (suc i) k [] h low high = absurd (omega arith)
+  ends_before zero k (y ∷ ys) h low high =
+      let b = beyond_is l q y (high 0 (omega arith) (omega arith)) in
+      let z : k ≡ k + 0 = omega arith in
+      place_here l q k (cell_of y) (map cell_of ys) (reach-by (cell_of y) b.0 b.1) ∙ z
+  ends_before (suc i) k (y ∷ ys) h low high =
+      let b = before_is l q y (low 0 (omega arith)) in
+      let z : suc k + i ≡ k + suc i = omega arith in
+      place-later l q k (cell_of y) (map cell_of ys) (reach-by (cell_of y) b.0 b.1)
+      ∙ ends_before i (suc k) ys (omega arith) (λ n less. low (suc n) (omega arith)) (λ n le less. high (suc n) (omega arith) (omega arith))
+      ∙ z
+
+  pub ends : (ys : List Cell) → Ordered (map cell_of ys) → (r : Result ℕ ℕ) → IsSearchInRange r (length ys) → IsBinarySearchResult (against l q) ys r
+      → MatchResult r (EndsAt l q (map cell_of ys)) (EndsAt l q (map cell_of ys))
+  ends ys o (Ok i) h equal =
+      let z : i ≡ 0 + i = omega arith in
+      z ∙ sym (ends_there i 0 ys o h (there_is l q _ (equal no_cell)))
+  ends ys o (Err i) h parted =
+      let p = parted (rise ys o) in
+      let z : i ≡ 0 + i = omega arith in
+      z ∙ sym (ends_before i 0 ys h (λ k less. p.0 k no_cell (omega arith) less) (λ k le less. p.1 k no_cell le less))

@@ -67,15 +67,26 @@ module _ {T : Type 0} (l q : ℕ) (u v : Value T) where
   put-length [] = refl
   put-length (c ∷ cs) = put_lengths c cs (is_at l q c) (is_before l q c) refl refl (put-length cs)
 
--- whatever is asked, the cells stay in order and at most 32
-pub served : (a : Ask) (ds : List (Machine.Cell ℕ)) → Ordered ds → length ds ≤ most_cells → Ordered (left_by a ds) × (length (left_by a ds) ≤ most_cells)
-served (Lookup l q) ds o few = (o, few)
-served (Mutate l q w) ds o few = by (full_for l.0 q ds) refl
+-- what holds on both sides of a test
+both : {A : Type 0} (P : A → Type 0) (t : Bool) {x y : A} → P x → P y → P (if? t x y)
+both P true p q = p
+both P false p q = q
+
+-- whatever is asked, cells in order stay so
+pub left_ordered : (a : Ask) (ds : List (Machine.Cell ℕ)) → Ordered ds → Ordered (left_by a ds)
+left_ordered (Lookup l q) ds o = o
+left_ordered (Mutate l q w) ds o = both Ordered (full_for l.0 q ds) o (put_keeps l.0 q (term w) ds o)
+left_ordered (Dispose l) ds o = without_keeps l.0 ds o
+
+-- and at most 32, where they were
+pub stay_tidy : (a : Ask) (ds : List (Machine.Cell ℕ)) → Ordered ds → length ds ≤ most_cells → Ordered (left_by a ds) × (length (left_by a ds) ≤ most_cells)
+stay_tidy (Lookup l q) ds o few = (o, few)
+stay_tidy (Mutate l q w) ds o few = by (full_for l.0 q ds) refl
   where
     by : (b : Bool) → full_for l.0 q ds ≡ b → Ordered (put_in l.0 q w ds) × (length (put_in l.0 q w ds) ≤ most_cells)
     by true e = rw e (o, few)
     by false e = rw e (put_keeps l.0 q (term w) ds o, omega (arith, put-length l.0 q (term w) (term 0) ds, ltb-false most_cells (length (put_cell l.0 q (term 0) ds)) e))
-served (Dispose l) ds o few = (without_keeps l.0 ds o, omega (arith, without_fewer l.0 ds, few))
+stay_tidy (Dispose l) ds o few = (without_keeps l.0 ds o, omega (arith, without_fewer l.0 ds, few))
 
 pub no_cells : (cells : List Cell) → length cells ≡ most_cells → Tidy 0 cells
 no_cells cells whole = record { few = omega arith; whole = whole; order = empty }

@@ -10,7 +10,8 @@ use Rattle.gil.specs.Numbers.{most_cells}
 use Rattle.gil.specs.Values.{Value, term}
 use Rattle.gil.specs.Machine.{put_cell}
 use Rattle.machine_cells.specs.declared.Cell.{Cell}
-use Rattle.machine_cells.specs.Mirror.{cell_of, cell, held_in, StandsAt, LacksAt}
+use Rattle.machine_cells.specs.Mirror.{cell_of, cell, held_in, StandsAt, LacksAt, carried_in}
+use Rattle.machine_cells.specs.Laws.InUse.{carried_is}
 use Rattle.machine_cells.specs.Laws.Order.{put_keeps}
 use Rattle.machine_cells.specs.Laws.Served.{Tidy, full_for}
 
@@ -38,7 +39,7 @@ opened at held l a low high =
 
 -- a cell written over the one that stands there
 module _ (held at : ℕ) (cells : List Cell) (c : Cell) (tidy : Tidy held cells) where
-  in_use : length (held_in held cells) ≡ held
+  pub in_use : length (held_in held cells) ≡ held
   in_use = held-length held cells (omega (arith, tidy.few, tidy.whole))
 
   module _ (s : StandsAt c.location.0 c.property (held_in held cells) at) where
@@ -89,3 +90,7 @@ module _ (held at : ℕ) (cells : List Cell) (c : Cell) (tidy : Tidy held cells)
             ∙ tidy.whole;
         order = rw between_holds (put_keeps c.location.0 c.property (term c.value) (held_in held cells) tidy.order);
       }
+
+      -- as `insert` puts it there
+      pub between_is : carried_in at held c cells ≡ set (copy_within cells at held (at + 1)) at c
+      between_is = carried_is at held c cells (omega (arith, s.inside, in_use)) (omega (arith, less, tidy.few, tidy.whole))

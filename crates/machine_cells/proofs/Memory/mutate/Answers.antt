@@ -1,37 +1,35 @@
 -- `Memory::mutate` meets its contract. Assumes nothing.
-use Rattle.std.proofs.Common.{Ok, ap}
+use Rattle.std.proofs.Common.{Ok, ◌∙◌, ap}
 use Rattle.machine_values.specs.Mirror.{truth_word}
-use Rattle.machine_cells.specs.Laws.Written.{over_holds, over_fits, over_tidy, between_holds, between_fits, between_tidy}
+use Rattle.machine_cells.specs.Laws.Done.{over, between, served}
 use Rattle.machine_cells.proofs.Memory.mutate.Goals as goal
 use Rattle.machine_cells.proofs.Memory.mutate.Goals.{in-Ok, in-Err+else-self-eq-CELLS}
 
 pub invariant_of-self : goal.invariant_of-self
-invariant_of-self c = over_tidy c.self.inside.held c.in-Ok.at c.self.inside.cells c.args.cell c.self.invariant (rw c.self.view_is c.in-Ok.ensures)
+invariant_of-self c = (served c.self.invariant (over c.args.cell c.in-Ok.at (rw c.self.view_is c.in-Ok.ensures))).2
 
 pub invariant_of-self-in-Err : goal.invariant_of-self-in-Err
 invariant_of-self-in-Err c =
-    rw c.copy_within.ensures.after
-    (between_tidy c.self.inside.held c.in-Err.at c.self.inside.cells c.args.cell c.self.invariant (rw c.self.view_is c.in-Err.ensures) c.if-self-eq-CELLS.false)
+    rw c.insert.ensures (served c.self.invariant (between c.args.cell c.in-Err.at (rw c.self.view_is c.in-Err.ensures) c.if-self-eq-CELLS.false)).2
 
 pub returns-clause-gives : goal.returns-clause-gives
 unfolding truth_word
 returns-clause-gives c =
     elim c.match-find.branch [
       | in-Ok w ↦
-          let e = over_fits c.self.inside.held w.in-Ok.at c.self.inside.cells c.args.cell c.self.invariant (rw c.self.view_is w.in-Ok.ensures) in
-          rw (← c.self.view_is) (simp e (ap Ok c.truth.ensures))
+          rw (← c.self.view_is)
+          (ap Ok c.truth.ensures ∙ (served c.self.invariant (over c.args.cell w.in-Ok.at (rw c.self.view_is w.in-Ok.ensures))).0)
       | in-Err+else-self-eq-CELLS w ↦
-          let e = between_fits c.self.inside.held w.in-Err.at c.self.inside.cells c.args.cell c.self.invariant (rw c.self.view_is w.in-Err.ensures) w.if-self-eq-CELLS.false in
-          rw (← c.self.view_is) (simp e (ap Ok c.truth.ensures))
+          rw (← c.self.view_is)
+          (ap Ok c.truth.ensures
+          ∙ (served c.self.invariant (between c.args.cell w.in-Err.at (rw c.self.view_is w.in-Err.ensures) w.if-self-eq-CELLS.false)).0)
     ]
 
 pub returns-clause-leaves : goal.returns-clause-leaves
 returns-clause-leaves c =
     elim c.match-find.branch [
-      | in-Ok w ↦
-          let e = over_fits c.self.inside.held w.in-Ok.at c.self.inside.cells c.args.cell c.self.invariant (rw c.self.view_is w.in-Ok.ensures) in
-          rw (w.self-is, ← c.self.view_is) (simp e (over_holds c.self.inside.held w.in-Ok.at c.self.inside.cells c.args.cell c.self.invariant (rw c.self.view_is w.in-Ok.ensures)))
+      | in-Ok w ↦ rw (w.self-is, ← c.self.view_is) (served c.self.invariant (over c.args.cell w.in-Ok.at (rw c.self.view_is w.in-Ok.ensures))).1
       | in-Err+else-self-eq-CELLS w ↦
-          let e = between_fits c.self.inside.held w.in-Err.at c.self.inside.cells c.args.cell c.self.invariant (rw c.self.view_is w.in-Err.ensures) w.if-self-eq-CELLS.false in
-          rw (w.self-is, ← c.self.view_is) (simp e (rw w.copy_within.ensures.after (between_holds c.self.inside.held w.in-Err.at c.self.inside.cells c.args.cell c.self.invariant (rw c.self.view_is w.in-Err.ensures) w.if-self-eq-CELLS.false)))
+          rw (w.self-is, ← c.self.view_is)
+          (rw w.insert.ensures (served c.self.invariant (between c.args.cell w.in-Err.at (rw c.self.view_is w.in-Err.ensures) w.if-self-eq-CELLS.false)).1)
     ]
