@@ -33,6 +33,14 @@ both_by : (x y n : ℕ) (b : Bool) → (x == n) ≡ b → if? b (y == n) false �
 both_by x y n true e h = (eqb-true x n e, eqb-true y n h)
 both_by x y n false e h = let z : ◌≡◌ {A = ℕ} 0 1 = cc in absurd (omega arith)
 
+-- such an operand is a value
+pub needed_value : (kind a b : ℕ) → needed_in kind a b ≡ true → 4294967296 ≤ b
+unfolding needed_in
+needed_value kind a b h =
+    let t = both_by (a / 4294967296) (b / 4294967296) (needed_word kind) (a / 4294967296 == needed_word kind) refl h in
+    let some : 1 ≤ needed_word kind = some-by kind (nat_lt kind 9) refl in
+    omega (arith, t.1)
+
 pub worked : {v : ℕ} (kind a b : ℕ) (pool : List ℕ) (count : ℕ) → needed_in kind a b ≡ true
     → v ≡ work_word kind (a % 4294967296) (b % 4294967296)
     → did (Ok v) pool count ≡ operate_in kind a b pool count
