@@ -1,7 +1,8 @@
 -- The ways through an operator's evaluation, each as one law over words. Assumes nothing.
-use Rattle.std.specs.Prelude.{ℕ, zero, suc, ◌+◌, ◌-◌, ◌/◌, ◌%◌, ◌<◌, ◌≤◌, true, ◌≡◌, refl, List, get_or, Some, Result, Ok, Err}
+use Rattle.std.specs.Prelude.{ℕ, zero, suc, ◌+◌, ◌-◌, ◌/◌, ◌%◌, ◌<◌, ◌≤◌, true, ◌≡◌, refl, List, get_or, Option, Some, IfSome, Result, Ok, Err}
 use Rattle.std.proofs.Math.Numerals.{sub-one}
-use Rattle.std.proofs.Common.{arith, eq-eqb, ne_eqb, lt-ltb, le-ltb}
+use Rattle.std.proofs.Common.{subst, arith, eq-eqb, ne_eqb, lt-ltb, le-ltb}
+use Rattle.gil.specs.Numbers.{most_depth}
 use Rattle.gil.specs.declared.errors.Error.{Error}
 use Rattle.gil.specs.declared.errors.Error.TheVariants.{NotBound}
 use Rattle.machine_code.specs.Code.{code_words, not_node, plus_node, kind_range}
@@ -84,3 +85,7 @@ module _ (code store : List ℕ) (frame : ℕ) where
       operates pool count (λ z. absurd (omega arith)) h (leaf-is 7 (at + 1) pool count ea) (λ z. absurd (omega arith))
       (leaf-is 7 (at + 1 + get_or code at 0 % kind_range) pool count eb)
       (worked (get_or code at 0 / kind_range) a b pool count fits e)
+
+  pub simply : (at : ℕ) {v : ℕ} {r : Option ℕ} (pool : List ℕ) (count : ℕ) → IfSome r (WorkedOut code store frame at) → r ≡ Some v
+      → did (Ok v) pool count ≡ operator_in code store frame most_depth at pool count
+  simply at pool count h e = subst (λ (r : Option ℕ). IfSome r (WorkedOut code store frame at)) e h pool count
