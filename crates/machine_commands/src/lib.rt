@@ -139,8 +139,9 @@ fn vanish() -> Command
     }
 }
 
-// A word that is no command's kind, which no accepted program has, is read as that of `fail`.
-fn kind(word: u32) -> CommandKind
+// A word that is no command's kind, which no accepted program has, is read as that of `fail`. Public, so that a command can be made of any word, as
+// `fetch` makes it.
+pub fn kind(word: u32) -> CommandKind
     ensures { result ≡ kind_of word }
 {
     CommandKind::try_from(word).unwrap_or(CommandKind::Fail)
