@@ -1,2 +1,3 @@
 pub mod Mirror
+pub mod Steps
 pub mod Laws

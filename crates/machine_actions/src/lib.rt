@@ -5,8 +5,8 @@
 ghost use Rattle.std.specs.Prelude.{◌≡◌};
 ghost use Rattle.machine_terms.specs.Mirror.{did};
 ghost use Rattle.machine_terms.specs.Laws.Engine.{known_in};
-ghost use Rattle.machine_commands.specs.Mirror.{fetch_in};
-ghost use Rattle.machine_actions.specs.Mirror.{located_in, ask_in, kept, acting_in};
+ghost use Rattle.machine_commands.specs.Mirror.{acted, fetch_in};
+ghost use Rattle.machine_actions.specs.Mirror.{located_in, ask_in, told_in, kept, acting_in};
 ghost use Rattle.machine_actions.specs.Laws.Changed.{changed, engine_in};
 
 use gil::errors::Error;
@@ -32,9 +32,9 @@ fn located(v: u64) -> Result<Location, Error>
     }
 }
 
-// "each operand in full, left to right", and then the sorts
+// What is asked of the cells, or the error that comes before: "each operand in full, left to right", and then the sorts
 #[tactic(auto, unfolding(crate::specs::Mirror::ask_in, crate::specs::Mirror::ask_second, crate::specs::Mirror::on_word))]
-fn ask(
+pub fn ask(
     code: &[u32; CODE_WORDS],
     c: Control,
     m: Command,
@@ -64,6 +64,21 @@ fn ask(
     }
 }
 
+// What an action comes to once the cells have answered: "3 no such cell", "7 a thirty-third cell", or a value for its variable
+pub fn conclude(
+    c: Control,
+    x: u32,
+    given: Result<u64, Error>,
+    store: &mut [u64; STORE_WORDS],
+) -> Next
+    ensures { acted result store.new ≡ told_in c x store.old given }
+{
+    match given {
+        Ok(v) => commands::assign(c, x, v, store),
+        Err(e) => Next::Error(e),
+    }
+}
+
 // An action on the cells
 #[tactic(auto, unfolding(crate::specs::Mirror::acting_in))]
 fn act(
@@ -78,10 +93,7 @@ fn act(
     ensures { changed (kept result store.new memory.new) pool.new count.new ≡ acting_in code.now c m memory.old store.old pool.old count.old }
 {
     match ask(code, c, m, store, pool, count) {
-        Ok(asked) => match memory.serve(asked) {
-            Ok(v) => commands::assign(c, m.target, v, store),
-            Err(e) => Next::Error(e),
-        },
+        Ok(asked) => conclude(c, m.target, memory.serve(asked), store),
         Err(e) => Next::Error(e),
     }
 }
