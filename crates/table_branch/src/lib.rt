@@ -3,7 +3,6 @@
 #![tactic(auto)]
 
 ghost use Rattle.std.specs.Prelude.{◌≡◌, ◌+◌, ◌^◌, ◌<◌};
-ghost use Rattle.gil.specs.Layout.{bit};
 ghost use Rattle.gil.specs.Refusals.{answer_of};
 ghost use Rattle.table_branch.specs.Mirror.{finished, finish_in, room_in, condition_on, conditions_with, branch_in, split_in};
 
@@ -38,11 +37,11 @@ pub fn room(stop: &Stop, count: u32) -> Result<(), Refusal>
     }
 }
 
-// 2 × term + truth
-fn condition(term: u32, truth: bool) -> u32
-    ensures { result ≡ condition_on term (bit truth) }
+// 2 × term + truth, of any two numbers
+pub fn condition(t: u32, truth: u32) -> u32
+    ensures { result ≡ condition_on t truth }
 {
-    std::num::wrapping_add_u32(std::num::wrapping_add_u32(term, term), u32::from(truth))
+    std::num::wrapping_add_u32(std::num::wrapping_add_u32(t, t), truth)
 }
 
 impl Branch {
@@ -58,8 +57,8 @@ impl Branch {
             return None;
         }
         Some((
-            self.with(yes, stop.steps, condition(term, true)),
-            self.with(no, stop.steps, condition(term, false)),
+            self.with(yes, stop.steps, condition(term, u32::from(true))),
+            self.with(no, stop.steps, condition(term, u32::from(false))),
         ))
     }
 

@@ -1,7 +1,7 @@
 -- The words of a row's head, where a path stopped so: what each function of this crate answers. Assumes nothing.
 use Rattle.std.specs.Prelude.{ℕ, ◌+◌, ◌*◌, ◌%◌, List, Option, None, Some}
 use Rattle.gil.specs.Numbers.{for_steps, for_branches}
-use Rattle.gil.specs.Codes.{error_number}
+use Rattle.gil.specs.Codes.{error_number, outcome_number}
 use Rattle.gil.specs.declared.outcomes.Outcome.TheVariants as Outcomes
 use Rattle.machine_code.specs.Mirror.{code_word}
 use Rattle.machine_commands.specs.declared.Control.{Control}
@@ -30,7 +30,7 @@ ended_in (Some next) n = end_of next n
 unfoldable pub head_in : List ℕ → Ending → Control → ℕ → Head
 head_in code e c conditions =
     record {
-      outcome = e.outcome;
+      outcome = outcome_number e.outcome;
       tag = e.tag;
       word = e.word;
       steps = e.steps;

@@ -81,7 +81,7 @@ pub fn head(
     let e = ends(next, steps);
     let variables = code_word(code, PROCEDURE_WORDS * (at.procedure as usize) + 3);
     Head {
-        outcome: e.outcome,
+        outcome: e.outcome as u32,
         tag: e.tag,
         word: e.word,
         steps: e.steps,

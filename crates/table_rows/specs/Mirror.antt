@@ -3,7 +3,6 @@ use Rattle.std.specs.Prelude.{ℕ, zero, suc, ◌+◌, ◌*◌, ◌/◌, ◌%◌
 use Rattle.machine_code.specs.Mirror.{if?}
 use Rattle.gil.specs.Numbers.{most_variables, most_branches, most_rows, most_frames, most_cells, row_length, heading_length, head_room, conditions_room, variables_room, cells_room, liveness_room, sites_room, rest_room}
 use Rattle.gil.specs.Names.{gather}
-use Rattle.gil.specs.Codes.{outcome_number}
 use Rattle.gil.specs.Layout.{Part, in_room}
 use Rattle.machine_code.specs.Code.{frame_words}
 use Rattle.lent_words.specs.Mirror.{at_most}
@@ -19,8 +18,7 @@ words_from f i (suc n) = f i ++ words_from f (suc i) n
 -- a row's first ten words
 unfoldable pub head_of : Head → List Cell → List ℕ
 head_of h cells =
-    outcome_number h.outcome ∷ h.tag ∷ h.word ∷ h.steps ∷ h.procedure ∷ h.command ∷ h.inputs ∷ h.conditions ∷ h.variables
-    ∷ min (length cells) most_cells ∷ []
+    h.outcome ∷ h.tag ∷ h.word ∷ h.steps ∷ h.procedure ∷ h.command ∷ h.inputs ∷ h.conditions ∷ h.variables ∷ min (length cells) most_cells ∷ []
 
 -- a condition is held as 2 × term + truth, a value as tag × 2^32 + word
 unfoldable pub condition_of : ℕ → List ℕ

@@ -39,7 +39,50 @@ pub things_put : {A : Type 0} (f : A → List ℕ) (goal b : List ℕ) (l : List
 unfolding put_words gather
 things_put f goal b l at i h p = sym (rw (drop_all i l h) at p)
 
--- a cell's four words, and as many cells as there is room for
+-- the same of things that have their words by their numbers: the next thing's words are written, what is left to write gives the same
+pub turn :
+    (f : ℕ → List ℕ) (goal b b' : List ℕ) (at at' i n : ℕ) → i < n → at' ≡ at + 4 * length (f i)
+    → goal ≡ put_words b at (words_from f i (n - i))
+    → b' ≡ put_words b at (f i)
+    → goal ≡ put_words b' at' (words_from f (i + 1) (n - (i + 1)))
+unfolding words_from
+turn f goal b b' at at' i n h k e e' =
+    let m : n - i ≡ suc (n - (i + 1)) = omega arith in
+    rw (e', k, ← put-append (f i) (words_from f (i + 1) (n - (i + 1))) b at, add-one) (rw (m, add-one) at e)
+
+-- all is written
+pub done :
+    (f : ℕ → List ℕ) (goal b : List ℕ) (at i n : ℕ) → n ≤ i
+    → goal ≡ put_words b at (words_from f i (n - i)) → b ≡ goal
+unfolding words_from put_words
+done f goal b at i n h e = let m : n - i ≡ 0 = omega arith in sym (rw m at e)
+
+-- nothing is written yet
+pub begun : (f : ℕ → List ℕ) (b : List ℕ) (at n m : ℕ) → n ≡ m → put_words b at (words_from f 0 m) ≡ put_words b at (words_from f 0 (n - 0))
+begun f b at n m e = let k : n - 0 ≡ m = omega arith in rw k
+
+-- words written behind words
+pub then-put :
+    (u v b b' b'' : List ℕ) (at at' : ℕ) → at' ≡ at + 4 * length u → b' ≡ put_words b at u → b'' ≡ put_words b' at' v
+    → b'' ≡ put_words b at (u ++ v)
+then-put u v b b' b'' at at' k e f = f ∙ rw (e, k, ← put-append u v b at)
+
+-- a value's two words, and a cell's four
+pub value-put :
+    (b b' : List ℕ) (at v x y : ℕ) → x ≡ v / 4294967296 → y ≡ v % 4294967296
+    → b' ≡ put_words b at (x ∷ y ∷ []) → b' ≡ put_words b at (value_of v)
+unfolding value_of
+value-put b b' at v x y e f g = cc
+
+pub cell-put :
+    (b b' b'' : List ℕ) (at at' : ℕ) (c : Cell) → at' ≡ at + 8
+    → b' ≡ put_words b at (c.location.0 ∷ c.property ∷ [])
+    → b'' ≡ put_words b' at' (value_of c.value)
+    → b'' ≡ put_words b at (cell_of c)
+unfolding cell_of
+cell-put b b' b'' at at' c k e f = then-put (c.location.0 ∷ c.property ∷ []) (value_of c.value) b b' b'' at at' k e f
+
+-- a cell's four words by themselves, and as many cells as there is room for
 pub four_words :
     (c : Cell) {t w : ℕ} → t ≡ c.value / 4294967296 → w ≡ c.value % 4294967296 → c.location.0 ∷ c.property ∷ t ∷ w ∷ [] ≡ cell_of c
 unfolding cell_of value_of

@@ -12,7 +12,6 @@ ghost use Rattle.table_rows.specs.Mirror.{head_of, conditions_held, variables_he
 
 use gil::layout::{CELLS_AT, CONDITIONS_AT, HEADING_BYTES, ROW_BYTES, VARIABLES_AT};
 use gil::limits::{MOST_BRANCHES, MOST_CELLS, MOST_FRAMES, MOST_ROWS, MOST_VARIABLES};
-use gil::outcomes::Outcome;
 use lent_words::put_word;
 use machine_cells::Cell;
 use machine_code::{FRAME_WORDS, STORE_WORDS};
@@ -22,10 +21,11 @@ const CONDITIONS: usize = MOST_BRANCHES as usize;
 
 // A row's first words: its outcome, with its value's tag and word, its error number or its reason, in numbers, since C reads them so from the row
 // (docs/LAYOUT.md); its steps and position; and how many inputs, conditions and variables there are. Conditions and variables have their count here
-// and not a slice's length, as it may be past their limit (specs/Mirror: conditions_held, variables_held).
+// and not a slice's length, as it may be past their limit (specs/Mirror: conditions_held, variables_held). The outcome is a number too, and no
+// `Outcome`: a row is written of any number, as of any tag and word; table_head's are an `Outcome`'s.
 #[derive(Clone, Copy)]
 pub struct Head {
-    pub outcome: Outcome,
+    pub outcome: u32,
     pub tag: u32,
     pub word: u32,
     pub steps: u32,
@@ -80,7 +80,7 @@ impl Row<'_> {
             part,
             0,
             &[
-                h.outcome as u32,
+                h.outcome,
                 h.tag,
                 h.word,
                 h.steps,

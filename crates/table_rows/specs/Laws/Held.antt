@@ -3,7 +3,6 @@
 use Rattle.std.specs.Prelude.{ℕ, ◌+◌, ◌*◌, ◌/◌, ◌%◌, ◌<◌, ◌≡◌, List, [], ◌∷◌, length, get_or, take}
 use Rattle.std.proofs.Math.Option.{Option, none, some}
 use Rattle.gil.specs.Numbers.{most_frames, as_returned, as_failed, as_vanished, as_error, as_cut}
-use Rattle.gil.specs.Codes.{outcome_number}
 use Rattle.gil.specs.Names.{gather}
 use Rattle.gil.specs.Values.{Constant, Value, const, term}
 use Rattle.gil.specs.Machine as machine
@@ -61,7 +60,7 @@ module _ {T : Type 0} (As : Value T → ℕ → Type 0) where
 
   -- "A finished row": its head, the first of the conditions and variables, as many as the head counts, and the cells
   pub record RowAs (place : T → ℕ) (r : Row T) (h : Head) (conditions store : List ℕ) (frame : ℕ) (cells : List Cell) : Type 0 where
-    pub outcome : OutcomeAs r.outcome (outcome_number h.outcome) h.tag h.word
+    pub outcome : OutcomeAs r.outcome h.outcome h.tag h.word
     pub steps : h.steps ≡ r.steps
     pub procedure : h.procedure ≡ r.procedure
     pub command : h.command ≡ r.command

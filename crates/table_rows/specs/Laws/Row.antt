@@ -7,7 +7,6 @@ use Rattle.std.proofs.Common.{◌∙◌, take-append-drop, lt-ltb}
 use mathlib.Core.List.{List, [], ◌∷◌, ◌++◌}
 use Rattle.std.proofs.Math.Option.{Option, none, some}
 use Rattle.std.proofs.Math.ListN.{length}
-use Rattle.gil.specs.Codes.{outcome_number}
 use Rattle.gil.specs.Names.{gather}
 use Rattle.gil.specs.Values.{Constant, Value}
 use Rattle.gil.specs.Machine as machine
@@ -116,7 +115,7 @@ module _ {T : Type 0} (tag place : T → ℕ) where
       head-alike : Alike (head_of h cells) (head_words tag place r)
       unfolding head_words head_of
       head-alike =
-          alike-append (outcome-alike r.outcome (outcome_number h.outcome) h.tag h.word p.outcome)
+          alike-append (outcome-alike r.outcome h.outcome h.tag h.word p.outcome)
           (alike_same (rw (p.steps, p.procedure, p.command, p.inputs, p.condition_count, p.variable_count, cell_count)))
 
       -- the parts written are the row's own, one by one

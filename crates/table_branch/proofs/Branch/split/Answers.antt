@@ -1,7 +1,6 @@
 -- `branch::Branch::split` meets its contract. Assumes nothing.
 use Rattle.std.proofs.Common.{◌≡◌, ℕ, refl, rules, Some, None}
 use Rattle.std.proofs.lemmas.Bool.{lt-leb, le-leb}
-use Rattle.gil.specs.Layout.{bit}
 use Rattle.machine_commands.specs.declared.Control.{Control}
 use Rattle.machine_commands.specs.declared.Next.{Next}
 use Rattle.machine_commands.specs.declared.Next.TheVariants.{On, Returned, Failed, Vanished, Error, Fork}
@@ -30,5 +29,5 @@ unfolding split_in
 returns-then-most-self c = rw (c.in_ok-next.was, c.in-Fork.is) (simp (le-leb _ _ c.if-most-self.true))
 
 pub returns : goal.returns
-unfolding split_in bit
-returns c = rw (c.in_ok-next.was, c.in-Fork.is, c.with.ensures, c.with-2.ensures, c.condition.ensures, c.condition-2.ensures) (simp (lt-leb _ _ c.if-most-self.false))
+unfolding split_in
+returns c = rw (c.in_ok-next.was, c.in-Fork.is, c.with.ensures, c.with-2.ensures, c.condition.ensures, c.condition-2.ensures, c.from.ensures, c.from-2.ensures) (simp (lt-leb _ _ c.if-most-self.false))
