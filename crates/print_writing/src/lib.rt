@@ -22,10 +22,19 @@ impl<'a> Page<'a> {
         ensures bytes { result.out.now ≡ out.old }
         ensures front { result.at ≡ 0 }
     {
-        Page { out, at: 0 }
+        Page::at(out, 0)
     }
 
-    // How many bytes were written, those that found no room too
+    // A page that goes on at any place, also past the memory's end
+    pub fn at(out: &'a mut [u8], at: usize) -> Page<'a>
+        ensures same { result.out.ghost_name ≡ out.entry.ghost_name }
+        ensures bytes { result.out.now ≡ out.old }
+        ensures place { result.at ≡ at }
+    {
+        Page { out, at }
+    }
+
+    // The place of the next byte, which counts those that found no room too
     pub fn count(&self) -> usize
         ensures { result ≡ self.now.at }
     {
