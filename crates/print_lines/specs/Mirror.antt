@@ -1,6 +1,7 @@
 -- What each function of this crate writes, on any bytes of table and pool at all: rows, and the whole table. crates/print_laws shows
 -- that for the bytes of a table and its pool this is document 01's printed form. Assumes nothing.
 use Rattle.std.specs.Prelude.{ℕ, List, [], ◌∷◌, ◌++◌, get_or, ltb}
+use Rattle.std.proofs.Math.Dec.{lit<}
 use Rattle.gil.specs.Numbers.{most_terms, most_rows, most_branches, most_procedures, outcome_word, tag_word, value_word, steps_word, procedure_word, command_word, conditions_word}
 use Rattle.gil.specs.Printed.{decimal, line_end, heading}
 use Rattle.text_tokens.specs.declared.tokens.Place.{Place}
@@ -17,7 +18,7 @@ sizes_in table pool = sizes_to pool no_sizes (at_most most_terms (word_at table 
 
 -- a procedure's name, by its number
 abbrev pub nowhere : Place
-nowhere = record { start = 0; size = 0 }
+nowhere = record { start = 0; size = 0; short = lit< tt }
 
 unfoldable pub name_form : List ℕ → Names → ℕ → List ℕ
 name_form text names f = if? (ltb f most_procedures) (name_at text (get_or names.places f nowhere)) []

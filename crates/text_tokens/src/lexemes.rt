@@ -3,7 +3,7 @@ ghost use Rattle.std.specs.Prelude.{◌≡◌, true, ◌+◌, ◌≤◌, ◌<◌
 ghost use Rattle.gil.specs.Text.{lexeme, token_from, in_run};
 ghost use Rattle.text_tokens.specs.Mirror.Marks.{lone, Marked};
 ghost use Rattle.text_tokens.specs.Mirror.Seen.{Found};
-ghost use Rattle.gil.specs.Numbers.{most_bytes};
+ghost use Rattle.gil.specs.Numbers.{most_bytes, most_characters};
 
 use crate::scan;
 use crate::texts::Text;
@@ -12,9 +12,10 @@ use gil::limits::MOST_CHARACTERS;
 use text_words::words::Word;
 use text_words::{classes, words};
 
-// the place of what stands from `start` to `end`
+// the place of the name or property that stands from `start` to `end`
 fn between(start: usize, end: usize) -> Place
-    requires { (start ≤ end) × (end ≤ most_bytes) }
+    requires within { (start ≤ end) × (end ≤ most_bytes) }
+    requires short { end ≤ start + most_characters }
     ensures { (result.start ≡ start) × (result.start + result.size ≡ end) }
 {
     Place {

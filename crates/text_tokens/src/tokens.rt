@@ -1,11 +1,15 @@
 // What a token is to the code.
+ghost use Rattle.std.specs.Prelude.{◌<◌};
+
 use text_words::keys::Key;
 
-// where a name or a property stands in the text: its first byte's place and its size
+// Where a name or a property stands in the text: its first byte's place and its size. Neither is longer than 16 characters, so each place is of
+// fewer than 32 bytes.
 #[derive(Clone, Copy, PartialEq, Eq)]
 pub struct Place {
     pub start: u32,
     pub size: u32,
+    pub ghost short: { size < 32 },
 }
 
 // the place of what no text has

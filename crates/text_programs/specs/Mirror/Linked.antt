@@ -1,5 +1,6 @@
 -- Linking: a call's callee, stored by its number in the table of callees, becomes the callee's place among the procedures. Assumes nothing.
 use Rattle.std.specs.Prelude.{ℕ, ◌+◌, ◌≤◌, ◌≡◌, true, false, List, map, length, get_or, set, eqb}
+use Rattle.std.proofs.Math.Dec.{lit<}
 use Rattle.gil.specs.Tree.{Cmd, assign, ifgoto, call, lookup, mutate, dispose, u_sym, i_sym, return, fail, vanish}
 use Rattle.gil.specs.Names.{gather, place_of, Procedure}
 use Rattle.machine_code.specs.Code.{cmd_nodes, call_kind, code_words, nodes_room, command_at}
@@ -29,7 +30,7 @@ relink_proc g q = record { name = q.name; variables = q.variables; body = map (r
 
 -- the place of what stands nowhere in a text
 abbrev pub nowhere : Place
-nowhere = record { start = 0; size = 0 }
+nowhere = record { start = 0; size = 0; short = lit< tt }
 
 -- the place of callee `f` of the table `calls` among the procedures of the table `procs`, or their count
 unfoldable pub callee_in : (s : List ℕ) (calls procs : Names) → ℕ → ℕ

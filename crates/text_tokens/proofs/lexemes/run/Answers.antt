@@ -1,8 +1,11 @@
 -- `lexemes::run` meets its contract. Assumes nothing.
 use Rattle.std.proofs.Common.{rules}
 use Rattle.gil.specs.Text.{in_run}
-use Rattle.text_tokens.specs.Steps.Runs.{run_name, run_number, run_key, run_u_site, run_i_site, run_fault}
+use Rattle.text_tokens.specs.Steps.Runs.{run_short, run_name, run_number, run_key, run_u_site, run_i_site, run_fault}
 use Rattle.text_tokens.proofs.lexemes.run.Goals as goal
+
+pub between-requires-clause-short : goal.between-requires-clause-short
+between-requires-clause-short c = run_short c.args.text.now c.args.i c.requires.0 c.requires.1 c.past-end.result (rw c.bytes-bytes.ensures.0 at c.past-end.ensures.ends in_run (λ b r l h. search rules)) (rw (c.bytes-bytes.ensures.0, c.in-Some-Name.field-0-is) at c.in-Some-Name.ensures)
 
 pub returns-in-Some-Name : goal.returns-in-Some-Name
 returns-in-Some-Name c = run_name c.args.text.now c.args.i c.requires.0 c.requires.1 c.past-end.result (rw c.bytes-bytes.ensures.0 at c.past-end.ensures.ends in_run (λ b r l h. search rules)) c.between.result c.between.ensures.0 c.between.ensures.1 (rw (c.bytes-bytes.ensures.0, c.in-Some-Name.field-0-is) at c.in-Some-Name.ensures)
