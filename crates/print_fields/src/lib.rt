@@ -23,15 +23,15 @@ use print_writing::Page;
 const LONGEST: u32 = 200;
 
 // The size that stands for every larger one. (Not a None: in `sizes_to`, by which crates/print_laws reads the sizes, it is a number.)
-const LARGE: u8 = 201;
+pub const LARGE: u8 = 201;
 
-const TERMS: usize = MOST_TERMS as usize;
+pub const TERMS: usize = MOST_TERMS as usize;
 
-// A pool, and the sizes of its terms' texts
+// A pool, and the sizes of its terms' texts: any sizes, as `over` takes and leaves them
 #[derive(Drop)]
 pub struct Fields<'a> {
-    pool: &'a [u8],
-    sizes: [u8; TERMS],
+    pub pool: &'a [u8],
+    pub sizes: [u8; TERMS],
 }
 
 impl<'a> Fields<'a> {
@@ -40,10 +40,15 @@ impl<'a> Fields<'a> {
         ensures pool { result.pool.now ≡ pool.now }
         ensures sizes { result.sizes ≡ sizes_to pool.now no_sizes (at_most most_terms terms) }
     {
-        let mut fields = Fields {
-            pool,
-            sizes: [LARGE; TERMS],
-        };
+        Fields::over(pool, [LARGE; TERMS], terms)
+    }
+
+    // The same over sizes that are there already: those of the terms after stay
+    pub fn over(pool: &'a [u8], sizes: [u8; TERMS], terms: u32) -> Fields<'a>
+        ensures pool { result.pool.now ≡ pool.now }
+        ensures sizes { result.sizes ≡ sizes_to pool.now sizes (at_most most_terms terms) }
+    {
+        let mut fields = Fields { pool, sizes };
         for k in 0..at_most(MOST_TERMS, terms) {
             let size = fields.term_size(k);
             fields.sizes[k as usize] = size;

@@ -1,4 +1,5 @@
--- How long an operator's text may be, and the cases of a constant, a term and a value, which this crate's proofs and others cite. Assumes nothing.
+-- How long the texts of an input, a constant and an operator may be, and the cases of a constant, a term and a value, which this crate's proofs
+-- and others cite. Assumes nothing.
 use Rattle.std.specs.Prelude.{ℕ, zero, suc, ◌+◌, ◌*◌, ◌-◌, ◌≤◌, ◌<◌, ◌≡◌, refl, Bool, true, false, List, [], ◌∷◌, ◌++◌, length, eqb}
 use Rattle.std.proofs.Common.{arith, sub-one, ◌∙◌, ap, lt-ltb, le-ltb, ne_eqb}
 use Rattle.gil.specs.Text.{bytes}
@@ -6,11 +7,27 @@ use Rattle.gil.specs.Numbers.{term_length, number_tag, boolean_tag, number_term_
 use Rattle.gil.specs.Printed.{decimal}
 use Rattle.lent_words.specs.Mirror.{word_at}
 use Rattle.machine_code.specs.Mirror.{if?}
+use Rattle.print_writing.specs.Laws.{decimal-length}
 use Rattle.print_values.specs.Mirror.{input_form, location_form, truth_form, constant_form, op_form, node_form, term_form, value_form}
 
 either : (n : ℕ) (d : Bool) (s t : List ℕ) → length s ≤ n → length t ≤ n → length (if? d s t) ≤ n
 either n true s t h i = h
 either n false s t h i = i
+
+pub input-length : (k : ℕ) → length (input_form k) ≤ 11
+input-length k = omega (arith, decimal-length k)
+
+truth-length : (x : ℕ) → length (truth_form x) ≤ 11
+unfolding truth_form bytes
+truth-length x = either 11 (eqb x 0) (bytes "false") (bytes "true") (omega arith) (omega arith)
+
+pub constant_length : (tag x : ℕ) → length (constant_form tag x) ≤ 11
+unfolding constant_form
+constant_length tag x =
+    let d : length (decimal x) ≤ 11 = omega (arith, decimal-length x) in
+    let l : length (location_form x) ≤ 11 = omega (arith, decimal-length x) in
+    either 11 (eqb tag number_tag) (decimal x) (if? (eqb tag boolean_tag) (truth_form x) (location_form x)) d
+    (either 11 (eqb tag boolean_tag) (truth_form x) (location_form x) (truth-length x) l)
 
 pub op_length : (kind : ℕ) → length (op_form kind) ≤ 5
 unfolding op_form bytes
@@ -33,6 +50,14 @@ constant_truth tag x e = ap (λ (t : ℕ). constant_form t x) e
 pub constant_location : (tag x : ℕ) → (tag ≡ number_tag → ⊥) → (tag ≡ boolean_tag → ⊥) → constant_form tag x ≡ location_form x
 unfolding constant_form
 constant_location tag x e f = simp (ne_eqb tag number_tag e, ne_eqb tag boolean_tag f, constant_form)
+
+pub truth_false : (x : ℕ) → x ≡ 0 → truth_form x ≡ bytes "false"
+unfolding truth_form
+truth_false x e = ap truth_form e
+
+pub truth_true : (x : ℕ) → (x ≡ 0 → ⊥) → truth_form x ≡ bytes "true"
+unfolding truth_form
+truth_true x e = simp (ne_eqb x 0 e, truth_form)
 
 -- a term by its kind
 module _ (f : ℕ → ℕ → List ℕ) (kind t x u y : ℕ) where

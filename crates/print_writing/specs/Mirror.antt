@@ -1,5 +1,5 @@
 -- Text written forward into lent memory: byte after byte from a place on. Where the memory ends the bytes are dropped and the place goes
--- on. `Wrote` is every writer's contract. Assumes nothing.
+-- on. `Writes` is every writer's contract, and `Wrote` that of what is given the memory itself. Assumes nothing.
 use Rattle.std.specs.Prelude.{ℕ, ◌+◌, ◌≡◌, List, [], ◌∷◌, set, ltb}
 use Rattle.machine_code.specs.Mirror.{if?}
 use Rattle.print_writing.specs.declared.Page.{Page}

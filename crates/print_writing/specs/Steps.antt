@@ -1,14 +1,15 @@
--- The laws that the functions' own proofs cite: one byte, with room and with none, and a number's digits. Assumes nothing.
+-- The laws that the functions' own proofs cite: one byte, with room and with none, a text's bytes and its parts, and a number's digits.
+-- Assumes nothing.
 use Rattle.std.specs.Prelude.{ℕ, zero, suc, ◌+◌, ◌-◌, ◌/◌, ◌%◌, ◌^◌, ◌≤◌, ◌<◌, ◌≡◌, refl, min, Bool, true, false, List, [], ◌∷◌, ◌++◌, length, get_or, set, take, drop, ltb}
 use Rattle.std.specs.Fmt as std
-use Rattle.std.proofs.Common.{arith, add-one, sym, ◌∙◌, ap, ap₂, length-drop, drop_of_length-le, take-suc, take_all, pow-suc, ltb-true, ltb-false}
+use Rattle.std.proofs.Common.{arith, add-one, sub-one, sym, ◌∙◌, ap, ap₂, length-drop, drop_of_length-le, take-suc, take_all, pow-suc, lt-ltb, le-ltb, ltb-true, ltb-false}
 use Rattle.std.proofs.Math.Seq.{set_out, take-nil}
 use Rattle.std.proofs.lemmas.Fmt.{decimal_digit, decimal_step}
 use Rattle.gil.specs.Text.{part}
 use Rattle.gil.specs.Printed.{digits, decimal}
 use Rattle.machine_code.specs.Mirror.{if?}
 use Rattle.print_writing.specs.Mirror.{last_place, next, reached, filled, Wrote, Writes}
-use Rattle.print_writing.specs.Laws.{writes_as, write_on}
+use Rattle.print_writing.specs.Laws.{wrote_as, writes_as, write_on}
 use Rattle.print_writing.specs.declared.Page.{Page}
 
 -- the next place is the sum, or the last one
@@ -30,16 +31,16 @@ unfolding filled reached
 wrote_out b at x h e = record { bytes = sym (set_out b at x h); place = e }
 
 -- the part of a text that is there
-part-past : (s : List ℕ) (from n : ℕ) → length s < from → part s from n ≡ []
+pub part-past : (s : List ℕ) (from n : ℕ) → length s < from → part s from n ≡ []
 unfolding part
 part-past s from n h = let g : length s ≤ from = omega arith in ap (take n) (drop_of_length-le s g) ∙ take-nil n
 
-part-short : (s : List ℕ) (from n : ℕ) → length s < from + n → take (length s - from) (drop from s) ≡ part s from n
+pub part-short : (s : List ℕ) (from n : ℕ) → length s < from + n → take (length s - from) (drop from s) ≡ part s from n
 unfolding part
 part-short s from n h =
     take_all (length s - from) (drop from s) (simp length-drop (omega arith)) ∙ sym (take_all n (drop from s) (simp length-drop (omega arith)))
 
-part-whole : (s : List ℕ) (from n : ℕ) → take (from + n - from) (drop from s) ≡ part s from n
+pub part-whole : (s : List ℕ) (from n : ℕ) → take (from + n - from) (drop from s) ≡ part s from n
 unfolding part
 part-whole s from n = let e : from + n - from ≡ n = omega arith in ap (λ (k : ℕ). take k (drop from s)) e
 
@@ -67,11 +68,29 @@ part_there s from n = by (ltb (length s) from) (ltb (length s) (from + n)) refl 
         let j : min (from + n) (length s) ≡ from + n = omega arith in
         ap₂ (λ (k m : ℕ). take (k - m) (drop m s)) j i ∙ part-whole s from n
 
--- one more byte of a text
+-- a text's bytes, one after another
 pub all_more :
     (s : List ℕ) (i : ℕ) {p q r : Page} → i < length s → Writes p (take i s) q → Writes q (get_or s i 0 ∷ []) r
     → Writes p (take (i + 1) s) r
 all_more s i h v w = writes_as (sym (ap (λ (k : ℕ). take k s) (add-one i) ∙ take-suc s i 0 h)) (write_on v w)
+
+pub all_end : (s : List ℕ) (i : ℕ) {b b' : List ℕ} {at r : ℕ} → length s ≤ i → Wrote b at (take i s) b' r → Wrote b at s b' r
+all_end s i h w = wrote_as (take_all i s h) w
+
+-- decimal digits
+pub digits-none : (k n : ℕ) → k ≡ 0 → digits k n ≡ (48 + n % 10) ∷ []
+unfolding digits
+digits-none k n e = ap (λ (k : ℕ). digits k n) e
+
+pub digits-few : (k n : ℕ) → (k ≡ 0 → ⊥) → n < 10 → digits k n ≡ (48 + n) ∷ []
+unfolding digits
+digits-few zero n nz h = absurd (nz refl)
+digits-few (suc k) n nz h = simp (lt-ltb n 10 h, digits)
+
+pub digits_more : (k n : ℕ) → (k ≡ 0 → ⊥) → 10 ≤ n → digits k n ≡ digits (k - 1) (n / 10) ++ ((48 + n % 10) ∷ [])
+unfolding digits
+digits_more zero n nz h = absurd (nz refl)
+digits_more (suc k) n nz h = simp (le-ltb n 10 h, digits, sub-one)
 
 -- the digits are std's
 digits_are : (k n : ℕ) → n < 10 ^ suc k → n < 2 ^ 64 → std.decimal n ≡ digits k n

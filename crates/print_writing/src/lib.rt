@@ -4,7 +4,7 @@
 
 ghost use Rattle.std.specs.Prelude.{◌≡◌, ◌≤◌, ℕ, List, [], ◌∷◌, length};
 ghost use Rattle.gil.specs.Text.{part};
-ghost use Rattle.gil.specs.Printed.{decimal};
+ghost use Rattle.gil.specs.Printed.{digits, decimal};
 ghost use Rattle.print_writing.specs.Mirror.{last_place, Writes};
 
 use itoa::Buffer;
@@ -22,10 +22,19 @@ impl<'a> Page<'a> {
         ensures bytes { result.out.now ≡ out.old }
         ensures front { result.at ≡ 0 }
     {
-        Page { out, at: 0 }
+        Page::at(out, 0)
     }
 
-    // How many bytes were written, those that found no room too
+    // A page that goes on at any place, also past the memory's end
+    pub fn at(out: &'a mut [u8], at: usize) -> Page<'a>
+        ensures same { result.out.ghost_name ≡ out.entry.ghost_name }
+        ensures bytes { result.out.now ≡ out.old }
+        ensures place { result.at ≡ at }
+    {
+        Page { out, at }
+    }
+
+    // The place of the next byte, which counts those that found no room too
     pub fn count(&self) -> usize
         ensures { result ≡ self.now.at }
     {
@@ -56,6 +65,22 @@ impl<'a> Page<'a> {
         let start = from as usize;
         let end = start + n as usize;
         self.put_all(&s[start.min(s.len())..end.min(s.len())]);
+    }
+
+    // Decimal, with at most `more` digits more than one: of a number that has more of them the last ones
+    pub fn put_digits(&mut self, n: u32, more: u8)
+        ensures { Writes self.old (digits more n) self.new }
+    {
+        if more == 0 {
+            self.put((48 + n % 10) as u8);
+            return;
+        }
+        if n < 10 {
+            self.put((48 + n) as u8);
+            return;
+        }
+        self.put_digits(n / 10, more - 1);
+        self.put((48 + n % 10) as u8);
     }
 }
 

@@ -1,8 +1,8 @@
--- `Fields::new` meets its contract. Assumes nothing.
+-- `Fields::over` meets its contract. Assumes nothing.
 use Rattle.std.proofs.Common.{ℕ, ◌≡◌, List, refl, arith, ap, ◌∙◌}
-use Rattle.print_fields.specs.Mirror.{no_sizes, term_size, sizes_to}
+use Rattle.print_fields.specs.Mirror.{term_size, sizes_to}
 use Rattle.print_fields.specs.Steps.{sizes-more, sizes-none}
-use Rattle.print_fields.proofs.Fields.new.Goals as goal
+use Rattle.print_fields.proofs.Fields.over.Goals as goal
 
 pub loop-k-init : goal.loop-k-init
 loop-k-init c = record { pool = refl; sizes = sizes-none _ _ }
@@ -17,4 +17,4 @@ loop-k-preserved c =
 pub returns-clause-sizes : goal.returns-clause-sizes
 returns-clause-sizes c =
     let k : c.loop-k.k ≡ c.at_most-k-end.result = omega arith in
-    c.loop-k.invariant.sizes ∙ ap (sizes_to c.args.pool.now no_sizes) (k ∙ c.at_most-k-end.ensures.0)
+    c.loop-k.invariant.sizes ∙ ap (sizes_to c.args.pool.now c.args.sizes) (k ∙ c.at_most-k-end.ensures.0)

@@ -1,0 +1,5 @@
+-- `Page::put_digits` meets its contract. Assumes nothing.
+use Rattle.print_writing.proofs.Page.+put_digits.Given as goal
+
+abbrev pub decreases-put_digits : goal.decreases-put_digits
+decreases-put_digits l = l.more
