@@ -60,13 +60,15 @@ unfoldable pub place_from : ℕ → ℕ → ℕ → List (Machine.Cell ℕ) → 
 place_from l q k [] = k
 place_from l q k (c ∷ cs) = elim (reaches l q c) [ true ↦ k | false ↦ place_from l q (suc k) cs ]
 
-abbrev pub EndsAt : ℕ → ℕ → List (Machine.Cell ℕ) → ℕ → Type 0
-EndsAt l q cs i = i ≡ place_from l q 0 cs
-
 -- whether the first cell is the one sought
 unfoldable pub leads : ℕ → ℕ → List (Machine.Cell ℕ) → Bool
 leads l q [] = false
 leads l q (c ∷ cs) = is_at l q c
+
+-- where a search from the front ends, and whether the cell sought stands there
+pub record EndsAt (l q : ℕ) (there : Bool) (cs : List (Machine.Cell ℕ)) (i : ℕ) : Type 0 where
+  pub place : i ≡ place_from l q 0 cs
+  pub stands : leads l q (drop i cs) ≡ there
 
 -- a cell pushed in front of the first `k`, the last of which drops out
 unfoldable pub shift_in : {A : Type 0} → ℕ → A → List A → List A

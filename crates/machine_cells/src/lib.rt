@@ -3,7 +3,7 @@
 // in and taken out is Machine's `cell_at`, `put_cell` and `without_cells` over that list (specs/Laws/Done.antt).
 #![tactic(auto)]
 
-ghost use Rattle.std.specs.Prelude.{◌≡◌, ◌<◌, ◌≤◌, [], length, map, drop, MatchResult};
+ghost use Rattle.std.specs.Prelude.{◌≡◌, ◌<◌, ◌≤◌, true, false, [], length, map, drop, MatchResult};
 ghost use Rattle.gil.specs.Numbers.{most_cells};
 ghost use Rattle.gil.specs.Machine.{without_cells};
 ghost use Rattle.machine_cells.specs.Mirror.{cell_of, held_in, against, StandsAt, LacksAt, EndsAt, carried_in};
@@ -181,7 +181,7 @@ impl Memory {
 pub fn search(cells: &[Cell], l: Location, q: u32) -> Result<usize, usize>
     requires { Ordered (map cell_of cells.now) }
     ensures found { MatchResult result (StandsAt l.0 q (map cell_of cells.now)) (LacksAt l.0 q (map cell_of cells.now)) }
-    ensures place { MatchResult result (EndsAt l.0 q (map cell_of cells.now)) (EndsAt l.0 q (map cell_of cells.now)) }
+    ensures ends { MatchResult result (EndsAt l.0 q true (map cell_of cells.now)) (EndsAt l.0 q false (map cell_of cells.now)) }
 {
     cells.binary_search_by(|c| c.against(l, q))
 }

@@ -8,6 +8,7 @@ ghost use Rattle.table_plain_run.specs.Mirror.{Answered};
 
 use gil::layout::ANSWER_BYTES;
 use gil::limits::{MOST_BRANCHES, MOST_INPUTS};
+use lent_words as words;
 use machine_cells::Memory;
 use machine_code::CODE_WORDS;
 use machine_commands as commands;
@@ -29,7 +30,7 @@ pub fn run(code: &[u32; CODE_WORDS], inputs: &[u32; INPUTS], budget: u32, answer
     if answer.len() < ANSWER {
         return;
     }
-    answer[..ANSWER].fill(0);
+    words::zero(&mut answer[..ANSWER]);
     let mut memory = Memory::new();
     let mut store = commands::start_store();
     let mut no_pool = [0u8; 1];

@@ -11,8 +11,8 @@ returns-clause-found c =
     let by_order = facts.position (against c.args.l.0 c.args.q) (always_returns_same _ _ _ (λ a r f' called. (search rules, search rules))) in
     searched c.args.l.0 c.args.q _ c.requires _ facts.bound by_order
 
-pub returns-clause-place : goal.returns-clause-place
-returns-clause-place c =
+pub returns-clause-ends : goal.returns-clause-ends
+returns-clause-ends c =
     let facts = c.binary_search_by.ensures in
     let by_order = facts.position (against c.args.l.0 c.args.q) (always_returns_same _ _ _ (λ a r f' called. (search rules, search rules))) in
     ends c.args.l.0 c.args.q _ c.requires _ facts.bound by_order

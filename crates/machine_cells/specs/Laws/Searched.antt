@@ -1,6 +1,6 @@
 -- What a search among cells in order finds, and what is put there: Machine's `cell_at` and `put_cell`. It ends where one from the front does.
 -- Assumes nothing.
-use Rattle.std.specs.Prelude.{ℕ, zero, suc, ◌+◌, ◌<◌, ◌≤◌, Bool, true, false, ◌||◌, ◌≡◌, refl, List, [], ◌∷◌, map, length, slice_index_or, Result, Ok, Err, MatchResult}
+use Rattle.std.specs.Prelude.{ℕ, zero, suc, ◌+◌, ◌<◌, ◌≤◌, Bool, true, false, ◌||◌, ◌≡◌, refl, List, [], ◌∷◌, map, length, drop, slice_index_or, Result, Ok, Err, MatchResult}
 use Rattle.std.specs.List.Sorted.{IsSearchInRange, IsBinarySearchResult, IsNonDecreasingBy}
 use Rattle.std.specs.declared.cmp.Ordering.TheVariants.{Less, Equal, Greater}
 use Rattle.std.specs.Ordering.{ordering_index}
@@ -14,7 +14,7 @@ use Rattle.gil.specs.Values.{Value}
 use Rattle.gil.specs.Machine as Machine
 use Rattle.gil.specs.Machine.{is_at, is_before, cell_at, put_cell}
 use Rattle.machine_cells.specs.declared.Cell.{Cell}
-use Rattle.machine_cells.specs.Mirror.{cell_of, no_cell, cell, against, StandsAt, LacksAt, reaches, place_from, EndsAt}
+use Rattle.machine_cells.specs.Mirror.{cell_of, no_cell, cell, against, StandsAt, LacksAt, reaches, place_from, leads, EndsAt}
 use Rattle.machine_cells.specs.Laws.InUse.{place_here, place-later}
 use Rattle.machine_cells.specs.Laws.Order.{Ahead, ahead, Ordered, behind, beyond_none}
 
@@ -164,12 +164,31 @@ module _ (l q : ℕ) where
       ∙ ends_before i (suc k) ys (omega arith) (λ n less. low (suc n) (omega arith)) (λ n le less. high (suc n) (omega arith) (omega arith))
       ∙ z
 
+  -- whether the cell sought stands where it ends
+  leads_as : (i : ℕ) (ys : List Cell) → i < length ys → leads l q (drop i (map cell_of ys)) ≡ is_at l q (cell_of (slice_index_or ys i no_cell))
+  unfolding leads
+  leads_as i [] h = absurd (omega arith)
+  leads_as zero (y ∷ ys) h = refl
+  leads_as (suc i) (y ∷ ys) h = leads_as i ys (omega arith)
+
+  leads_past : (i : ℕ) (ys : List Cell) → ((n : ℕ) → i ≤ n → n < length ys → against l q (slice_index_or ys n no_cell) ≡ Greater)
+      → leads l q (drop i (map cell_of ys)) ≡ false
+  unfolding leads
+  leads_past zero [] high = refl
+  leads_past (suc i) [] high = refl
+  leads_past zero (y ∷ ys) high = (beyond_is l q y (high 0 (omega arith) (omega arith))).0
+  leads_past (suc i) (y ∷ ys) high = leads_past i ys (λ n le less. high (suc n) (omega arith) (omega arith))
+
   pub ends : (ys : List Cell) → Ordered (map cell_of ys) → (r : Result ℕ ℕ) → IsSearchInRange r (length ys) → IsBinarySearchResult (against l q) ys r
-      → MatchResult r (EndsAt l q (map cell_of ys)) (EndsAt l q (map cell_of ys))
+      → MatchResult r (EndsAt l q true (map cell_of ys)) (EndsAt l q false (map cell_of ys))
   ends ys o (Ok i) h equal =
+      let e = there_is l q _ (equal no_cell) in
       let z : i ≡ 0 + i = omega arith in
-      z ∙ sym (ends_there i 0 ys o h (there_is l q _ (equal no_cell)))
+      record { place = z ∙ sym (ends_there i 0 ys o h e); stands = leads_as i ys h ∙ e }
   ends ys o (Err i) h parted =
       let p = parted (rise ys o) in
       let z : i ≡ 0 + i = omega arith in
-      z ∙ sym (ends_before i 0 ys h (λ k less. p.0 k no_cell (omega arith) less) (λ k le less. p.1 k no_cell le less))
+      record {
+        place = z ∙ sym (ends_before i 0 ys h (λ k less. p.0 k no_cell (omega arith) less) (λ k le less. p.1 k no_cell le less));
+        stands = leads_past i ys (λ k le less. p.1 k no_cell le less);
+      }

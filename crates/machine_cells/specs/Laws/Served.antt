@@ -9,6 +9,7 @@ use Rattle.gil.specs.Machine.{is_at, is_before, cell_at, put_cell, without_cells
 use Rattle.gil.specs.declared.errors.Error.{Error}
 use Rattle.gil.specs.declared.errors.Error.TheVariants.{NoSuchCell, ThirtyThirdCell}
 use Rattle.machine_code.specs.Mirror.{if?}
+use Rattle.machine_values.specs.declared.Location.{Location}
 use Rattle.machine_cells.specs.declared.Cell.{Cell}
 use Rattle.machine_cells.specs.declared.Ask.{Ask}
 use Rattle.machine_cells.specs.declared.Ask.TheVariants.{Lookup, Mutate, Dispose}
@@ -51,6 +52,26 @@ abbrev pub left_by : Ask → List (Machine.Cell ℕ) → List (Machine.Cell ℕ)
 left_by (Lookup l q) ds = ds
 left_by (Mutate l q w) ds = put_in l.0 q w ds
 left_by (Dispose l) ds = without_cells l.0 ds
+
+-- what an action of each kind gives and leaves
+module _ {a : Ask} (ds : List (Machine.Cell ℕ)) where
+  pub given_look : (l : Location) (q : ℕ) → a ≡ Lookup l q → given_by a ds ≡ value_or NoSuchCell (cell_at l.0 q ds)
+  given_look l q e = rw e refl
+
+  pub given_write : (l : Location) (q w : ℕ) → a ≡ Mutate l q w → {b : Bool} → full_for l.0 q ds ≡ b → given_by a ds ≡ if? b (Err ThirtyThirdCell) (Ok 8589934593)
+  given_write l q w e f = rw e (ap (λ (b : Bool). if? b (Err ThirtyThirdCell) (Ok 8589934593)) f)
+
+  pub given-drop : (l : Location) → a ≡ Dispose l → given_by a ds ≡ Ok 8589934593
+  given-drop l e = rw e refl
+
+  pub left_write : (l : Location) (q w : ℕ) → a ≡ Mutate l q w → {b : Bool} → full_for l.0 q ds ≡ b → left_by a ds ≡ if? b ds (put_cell l.0 q (term w) ds)
+  left_write l q w e f = rw e (ap (λ (b : Bool). if? b ds (put_cell l.0 q (term w) ds)) f)
+
+  pub left-drop : (l : Location) → a ≡ Dispose l → left_by a ds ≡ without_cells l.0 ds
+  left-drop l e = rw e refl
+
+  pub left-same : (l : Location) (q : ℕ) → a ≡ Lookup l q → left_by a ds ≡ ds
+  left-same l q e = rw e refl
 
 -- how many cells there are after a put does not depend on the value
 module _ {T : Type 0} (l q : ℕ) (u v : Value T) where
