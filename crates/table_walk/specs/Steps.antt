@@ -102,11 +102,11 @@ module _ (code : List ℕ) (budgets : Budgets) (from : Branch) (store : List ℕ
   overfull zero h = rw (← e, h)
   overfull (suc k) h = rw (← e, h)
 
-  pool-full : full_in f.next count' ≡ true → reached for_terms rows table pool' count' ≡ whole
+  -- the pool is overfull, as the path stopped and as `room` answers
+  pub pool-full : full_in f.next count' ≡ true → reached for_terms rows table pool' count' ≡ whole
   unfolding walks_in
   pool-full h = overfull (budgets.branches - from.branches) h
 
-  -- the pool is overfull
   pub no-room : {r : Result (Unit {0}) Refusal} {x : Refusal} → r ≡ room_in f.next count' → r ≡ Err x
       → reached (answer_of r) rows table pool' count' ≡ whole
   no-room {r} {x} k z = by (full_in f.next count') refl (sym z ∙ k)
