@@ -1,5 +1,5 @@
 // The small forms: a given mark, `:=`, a name, a property, a number, an operator. They are taken in where they are called: an `Option` of a pair
-// would else go through memory, and a text's check take 5 % longer (docs/DESIGN-PASS.md).
+// would else go through memory, and a text's check take 3 % longer (docs/DESIGN-PASS.md).
 ghost use Rattle.std.specs.Prelude.{◌≡◌, suc, true};
 ghost use Rattle.gil.specs.Reading.{the_mark, the_becomes, the_name, the_property, the_number, the_op, op_mark, op_key};
 ghost use Rattle.text_words.specs.Mirror.Keys.{key_is};

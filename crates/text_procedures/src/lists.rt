@@ -3,7 +3,7 @@ ghost use Rattle.std.specs.Prelude.{◌≡◌, suc, ◌+◌, ◌*◌, ◌≤◌,
 ghost use Rattle.text_forms.specs.Mirror.Goes.{Gives};
 ghost use Rattle.text_commands.specs.Mirror.{one_past};
 ghost use Rattle.text_procedures.specs.Mirror.Lists.{Lists};
-ghost use Rattle.text_procedures.specs.Mirror.Procedures.{Declares, Tells, Whole};
+ghost use Rattle.text_procedures.specs.Mirror.Procedures.{Declares, Tells};
 ghost use Rattle.gil.specs.Reading.{commands, procedure, procedures};
 ghost use Rattle.gil.specs.Numbers.{most_bytes};
 
@@ -157,14 +157,15 @@ fn counted(t: Tally, d: Declared) -> Tally
     }
 }
 
+// all procedures, and the place after them
 pub fn procedures_of(
     text: &Text,
     tables: &mut Tables,
     procs: &mut Names,
     code: &mut Words,
-) -> Option<Tally>
+) -> Option<(Tally, usize)>
     ensures same { code.new.code.ghost_name ≡ code.old.code.ghost_name }
-    ensures read { Whole (λ t. Tells text.now tables.old.props tables.new.props tables.old.calls tables.new.calls procs.old procs.new code.old.code.now code.new.code.now t.procs t.commands t.wide t.past t.unended) (procedures text.now) result }
+    ensures read { Gives text.now 1 (λ t. Tells text.now tables.old.props tables.new.props tables.old.calls tables.new.calls procs.old procs.new code.old.code.now code.new.code.now t.procs t.commands t.wide t.past t.unended) (procedures text.now) result }
 {
     text.len();
     code.out = NODES_AT;
@@ -184,7 +185,7 @@ pub fn procedures_of(
         next = after;
         tally = counted(tally, declared);
         if let Token::Ended = text.token(next).token {
-            return Some(tally);
+            return Some((tally, next));
         }
     }
 }

@@ -8,8 +8,9 @@ ghost use Rattle.gil.specs.Calls.{text_answer};
 ghost use Rattle.gil.specs.Refusals.{answer_of};
 ghost use Rattle.text_tokens.specs.Mirror.Seen.{name_at};
 ghost use Rattle.text_names.specs.Mirror.Tables.{Kept, known, most_names};
-ghost use Rattle.text_procedures.specs.Mirror.Procedures.{Tells, Whole};
-ghost use Rattle.text_programs.specs.Mirror.Verdict.{Told, any_lost, wrong_with};
+ghost use Rattle.text_forms.specs.Mirror.Goes.{Gives};
+ghost use Rattle.text_procedures.specs.Mirror.Procedures.{Tells};
+ghost use Rattle.text_programs.specs.Mirror.Verdict.{Told, any_missing, wrong_with};
 ghost use Rattle.text_programs.specs.Mirror.Reads.{Reads, Finishes};
 ghost use Rattle.gil.specs.Numbers.{most_commands, most_procedures, most_properties};
 ghost use Rattle.machine_code.specs.Code.{code_words};
@@ -42,7 +43,7 @@ fn is_missing(text: &Text, place: Place, procs: &Names) -> bool
 
 // some call is of none of the procedures
 fn some_missing(text: &Text, calls: &Names, procs: &Names) -> bool
-    ensures { result ≡ any_lost text.now calls.now procs.now }
+    ensures { result ≡ any_missing text.now calls.now procs.now }
 {
     let count = calls.count.min(calls.most);
     calls.places[..count]
@@ -93,7 +94,7 @@ fn finish(text: &Text, code: &mut [u32; CODE_WORDS], commands: usize, calls: &Na
     if commands > MOST_COMMANDS {
         return;
     }
-    link::link(text, code, commands, calls, procs);
+    link::link(text.bytes(), code, commands, calls, procs);
     code[0] = procs.count as u32;
     code[1] = procs.find(text, b"main").unwrap_or(procs.count) as u32;
 }
@@ -104,8 +105,8 @@ fn procedures(
     tables: &mut Tables,
     names: &mut Names,
     code: &mut [u32; CODE_WORDS],
-) -> Option<Tally>
-    ensures { Whole (λ t. Tells text.now tables.old.props tables.new.props tables.old.calls tables.new.calls names.old names.new code.old code.new t.procs t.commands t.wide t.past t.unended) (procedures text.now) result }
+) -> Option<(Tally, usize)>
+    ensures { Gives text.now 1 (λ t. Tells text.now tables.old.props tables.new.props tables.old.calls tables.new.calls names.old names.new code.old code.new t.procs t.commands t.wide t.past t.unended) (procedures text.now) result }
 {
     let mut words = Words {
         code,
@@ -131,7 +132,7 @@ pub fn read_program(
         props: Names::new(MOST_PROPERTIES),
         calls: Names::new(MOST_PROCEDURES),
     };
-    let Some(t) = procedures(&text, &mut tables, names, code) else {
+    let Some((t, _)) = procedures(&text, &mut tables, names, code) else {
         return Err(Refusal::Form);
     };
     verdict(&text, t, &tables, names)?;

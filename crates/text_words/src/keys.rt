@@ -22,8 +22,9 @@ pub enum Key {
     Dispose,
 }
 
-// each reserved word in its bytes, with its key; a `const` would be copied where it is asked
-pub static RESERVED: [(&[u8], Key); 12] = [
+// Each reserved word in its bytes, with its key, in the definitions' order: `table_is` (specs/Steps/Keys.antt) says so of the whole table, which
+// only a `const` is named to.
+pub const RESERVED: [(&[u8], Key); 12] = [
     (b"ifgoto", Key::Ifgoto),
     (b"return", Key::Return),
     (b"fail", Key::Fail),

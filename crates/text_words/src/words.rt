@@ -19,7 +19,7 @@ pub enum Word {
     ISite(u32),
 }
 
-// Two runs are the same. By places, and not by `==`, which is a call for each pair of bytes: a text's check took 13 % longer (docs/DESIGN-PASS.md).
+// Two runs are the same. By places, and not by `==`, which is a call for each pair of bytes: a text's check took 11 % longer (docs/DESIGN-PASS.md).
 pub fn same(a: &[u8], b: &[u8]) -> bool
     ensures { result ≡ Text.same a.now b.now }
 {

@@ -4,15 +4,16 @@ use Rattle.std.proofs.Math.Path.{refl, ap}
 use Rattle.std.proofs.Common.{sym, ◌∙◌, subst, arith}
 use Rattle.gil.specs.Text as Text
 use Rattle.gil.specs.Text.{lexeme}
-use Rattle.gil.specs.Tree.{Cmd, return, fail, vanish, Name}
-use Rattle.gil.specs.Reading.{Read, Reader, after, ◌>>=◌, ◌>>◌, done, nothing, token, ahead, the_mark, the_becomes, as_word, value_from, setting_of, jump_of, ending_of, command_key, command_word, command}
+use Rattle.gil.specs.Tree.{Expr, Cmd, ifgoto, return, fail, vanish, Name}
+use Rattle.gil.specs.Numbers.{most_depth}
+use Rattle.gil.specs.Reading.{Read, Reader, after, ◌>>=◌, ◌>>◌, done, nothing, token, ahead, the_mark, the_becomes, the_number, as_word, expr_deep, expr, value_from, setting_of, jump_of, ending_of, command_key, command_word, command}
 use Rattle.text_words.specs.declared.keys.Key.{Key}
 use Rattle.text_words.specs.Mirror.Keys.{key_is}
 use Rattle.text_tokens.specs.declared.tokens.Place.{Place}
 use Rattle.text_tokens.specs.declared.tokens.Token.{Token}
 use Rattle.text_tokens.specs.Mirror.Seen.{name_at, Seen, a_name, a_number, a_key, a_u_site, an_i_site, a_fault, a_property, becoming, a_mark, the_end, Found}
-use Rattle.text_forms.specs.Mirror.Goes.{Goes, Passes, Gives, anything}
-use Rattle.text_forms.specs.Laws.Goes.{weaken, first}
+use Rattle.text_forms.specs.Mirror.Goes.{Goes, Passes, Gives, anything, following}
+use Rattle.text_forms.specs.Laws.Goes.{weaken, implied, stops, first, closes, closes-with, row}
 use Rattle.text_forms.specs.Laws.Seeing.{seen-as, reads, faults, carries}
 use Rattle.text_values.specs.Laws.{ahead_step}
 use Rattle.text_commands.specs.Mirror.{bare_command}
@@ -94,3 +95,39 @@ module _ {s : List ℕ} {at : ℕ} {t : Token} {n : ℕ} (f : Found s at (lexeme
 pub apart : (s : List ℕ) (at : ℕ) → command s at ≡ after s (bare_command s at) (λ c. the_mark 59 >> done c)
 unfolding command bare_command ◌>>=◌ after token
 apart s at = refl
+
+-- each form of any parts, where what follows a part is asked only where that was read
+pub setting_goes :
+    {s : List ℕ} {P Q : Cmd Name → Type 0} {at : ℕ} {o₁ o₂ : Option ℕ} (v : Name)
+    → ((c : Cmd Name) → Q c → P c)
+    → Passes s (suc at) anything (the_becomes s at) o₁
+    → ((a : ℕ) → o₁ ≡ Some a → Passes s (suc a) Q (value_from v (lexeme s a).token s a) o₂)
+    → Passes s (suc at) P (setting_of v s at) (following o₁ o₂)
+unfolding setting_of ◌>>◌ following
+setting_goes {o₁ = None} v h gb gv = stops _ gb
+setting_goes {o₁ = Some a} v h gb gv = setting-first v gb (implied h (gv a refl))
+
+pub jump_goes :
+    {s : List ℕ} {E : Expr Name → Type 0} {N : ℕ → Type 0} {P : Cmd Name → Type 0} {at : ℕ} {o₁ o₂ : Option ℕ}
+    → ((e : Expr Name) (n : ℕ) → E e → N n → P (ifgoto e n))
+    → Passes s (suc at) E (expr_deep most_depth s at) o₁
+    → ((a : ℕ) → o₁ ≡ Some a → Passes s (suc a) N (the_number s a) o₂)
+    → Passes s (suc at) P (jump_of s at) (following o₁ o₂)
+unfolding jump_of ◌>>=◌ expr
+jump_goes h ge gn = row _ ge (λ e a i qe. weaken (omega arith) (closes-with (ifgoto e) (λ n qn. h e n qe qn) (gn a i)))
+
+pub ending-goes :
+    {s : List ℕ} {E : Expr Name → Type 0} {P : Cmd Name → Type 0} {at : ℕ} {o : Option ℕ} (c : Expr Name → Cmd Name)
+    → ((e : Expr Name) → E e → P (c e))
+    → Passes s (suc at) E (expr_deep most_depth s at) o
+    → Passes s (suc at) P (ending_of c s at) o
+unfolding ending_of ◌>>=◌ expr
+ending-goes c h ge = closes-with c h ge
+
+pub command-goes :
+    {s : List ℕ} {P : Cmd Name → Type 0} {at : ℕ} {o₁ o₂ : Option ℕ}
+    → Passes s (suc at) P (bare_command s at) o₁
+    → ((a : ℕ) → o₁ ≡ Some a → Passes s (suc a) anything (the_mark 59 s a) o₂)
+    → Passes s (suc at) P (command s at) (following o₁ o₂)
+unfolding ◌>>◌
+command-goes {s} {at = at} gc gm = rw (apart s at) (row _ gc (λ c a e q. closes c (gm a e) q))

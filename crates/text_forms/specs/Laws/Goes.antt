@@ -2,7 +2,7 @@
 use Rattle.std.specs.Prelude.{ℕ, suc, ◌≤◌, ◌≡◌, refl, List, length, Option, None, Some}
 use Rattle.std.proofs.Common.{sym, ap, ◌∙◌, subst, arith}
 use Rattle.gil.specs.Reading.{Read, faulty, read, Reader, after, done}
-use Rattle.text_forms.specs.Mirror.Goes.{Goes, fails, goes, Passes}
+use Rattle.text_forms.specs.Mirror.Goes.{Goes, fails, goes, Passes, following}
 
 pub weaken : {s : List ℕ} {low lower : ℕ} {A B : Type 0} {next : B → ℕ} {Q : B → A → Type 0} {r : Read A} {o : Option B} → lower ≤ low → Goes s low next Q r o → Goes s lower next Q r o
 weaken h fails = fails
@@ -11,6 +11,11 @@ weaken h (goes e l w q) = goes e (omega arith) w q
 -- what holds of all that has `Q` holds of what was read
 pub onto : {s : List ℕ} {low : ℕ} {A B C : Type 0} {next : B → ℕ} {next' : C → ℕ} {Q : B → A → Type 0} {P : C → A → Type 0} {r : Read A} {b : B} {c : C} → next' c ≡ next b → ((a : A) → Q b a → P c a) → Goes s low next Q r (Some b) → Goes s low next' P r (Some c)
 onto z h (goes {a = a} e l w q) = goes (z ∙ e) l w (h a q)
+
+-- what follows from all that was to hold holds
+pub implied : {s : List ℕ} {low : ℕ} {A : Type 0} {Q P : A → Type 0} {r : Read A} {o : Option ℕ} → ((a : A) → Q a → P a) → Passes s low Q r o → Passes s low P r o
+implied h fails = fails
+implied h (goes e l w q) = goes e l w (h _ q)
 
 -- a fault is one whatever was to hold
 pub fault : {s : List ℕ} {low lower : ℕ} {A B C : Type 0} {next : B → ℕ} {next' : C → ℕ} {Q : B → A → Type 0} {P : C → A → Type 0} {r : Read A} → Goes s low next Q r None → Goes s lower next' P r None
@@ -70,3 +75,19 @@ pub closes : {s : List ℕ} {at : ℕ} {A C : Type 0} {Q : A → Type 0} {P : C 
 unfolding after done
 closes c fails p = fails
 closes c (goes e l w q) p = goes e (omega arith) w p
+
+-- the same where the row ends in what the last reader read
+pub closes-with : {s : List ℕ} {at : ℕ} {A C : Type 0} {Q : A → Type 0} {P : C → Type 0} {r : Read A} {o : Option ℕ} (c : A → C) → ((a : A) → Q a → P (c a)) → Passes s (suc at) Q r o → Passes s (suc at) P (after s r (λ a. done (c a))) o
+unfolding after done
+closes-with c h fails = fails
+closes-with c h (goes e l w q) = goes e l w (h _ q)
+
+-- a reader of a row, whatever it answers, and what follows where it read something: at the row's beginning, and further on
+module _ {s : List ℕ} {at : ℕ} {A C : Type 0} {Q : A → Type 0} {P : C → Type 0} {r : Read A} where
+  pub row : {o p : Option ℕ} (f : A → Reader C) → Passes s (suc at) Q r o → ((a : A) (n : ℕ) → o ≡ Some n → Q a → Passes s n P (f a s n) p) → Passes s (suc at) P (after s r f) (following o p)
+  unfolding following
+  row {o = None} f g k = stops f g
+  row {o = Some n} f g k = first f g (λ a w q. k a n refl q)
+
+  pub next : {o p : Option ℕ} (f : A → Reader C) → Passes s (suc at) Q r o → ((a : A) (n : ℕ) → o ≡ Some n → Q a → Passes s n P (f a s n) p) → Passes s at P (after s r f) (following o p)
+  next f g k = weaken (omega arith) (row f g k)

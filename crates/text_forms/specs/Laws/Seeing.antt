@@ -1,6 +1,6 @@
 -- What a token of the code says of the readers of the definitions: one law for each form and each answer. Assumes nothing.
 use Rattle.std.specs.Prelude.{ℕ, suc, ◌≤◌, ◌≡◌, ◌≢◌, refl, Bool, true, false, List, [], length, Option, None, Some, is_some}
-use Rattle.std.proofs.Common.{sym, ap, ◌∙◌, subst, arith, eq-eqb}
+use Rattle.std.proofs.Common.{sym, ap, ◌∙◌, subst, arith, eq-eqb, ne_eqb}
 use Rattle.std.proofs.Math.Decide.{dec_le}
 use Rattle.gil.specs.Text as Text
 use Rattle.gil.specs.Text.{Word, lexeme}
@@ -22,6 +22,23 @@ use Rattle.text_forms.specs.Laws.Goes.{weaken}
 pub mark-seen : {s : List ℕ} {t : Text.Token} {b : ℕ} → Seen s t (Token.Mark b) → is_mark b t ≡ true
 unfolding is_mark
 mark-seen (a_mark {b} l) = eq-eqb b b refl
+
+mark-not : {s : List ℕ} {t : Text.Token} {k : Token} (b : ℕ) → Seen s t k → (k ≢ Token.Mark b) → is_mark b t ≡ false
+unfolding is_mark
+mark-not b (a_name e) h = refl
+mark-not b (a_number e) h = refl
+mark-not b (a_key e) h = refl
+mark-not b (a_u_site e) h = refl
+mark-not b (an_i_site e) h = refl
+mark-not b (a_fault e) h = refl
+mark-not b (a_property e) h = refl
+mark-not b becoming h = refl
+mark-not b (a_mark {b = c} l) h = ne_eqb b c (λ e. h (ap Token.Mark (sym e)))
+mark-not b the_end h = refl
+
+-- a token is a mark exactly where it is seen as that mark
+pub mark-is : {s : List ℕ} {t : Text.Token} {k : Token} (b : ℕ) → Seen s t k → ((k ≡ Token.Mark b) → is_mark b t ≡ true) × ((k ≢ Token.Mark b) → is_mark b t ≡ false)
+mark-is {s} {t} b f = (λ e. mark-seen (subst (λ (k : Token). Seen s t k) e f), mark-not b f)
 
 pub ended-seen : {s : List ℕ} {t : Text.Token} → Seen s t Token.Ended → is_ended t ≡ true
 unfolding is_ended

@@ -18,3 +18,8 @@ Gives s low Q = Goes s low (λ r. r.1) (λ r. Q r.0)
 
 abbrev pub anything : {A : Type 0} → A → Type 0
 anything a = Unit {0}
+
+-- what the second of two readers in a row answers, which is asked only where the first read something
+unfoldable pub following : {A B : Type 0} → Option A → Option B → Option B
+following None o = None
+following (Some a) o = o

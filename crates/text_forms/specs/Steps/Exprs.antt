@@ -3,15 +3,15 @@ use Rattle.std.specs.Prelude.{ℕ, zero, suc, ◌-◌, ◌≡◌, ◌≢◌, ref
 use Rattle.std.proofs.Common.{sym, ap, ◌∙◌, subst, arith, eq-eqb, ne_eqb}
 use Rattle.gil.specs.Text as Text
 use Rattle.gil.specs.Text.{lexeme}
-use Rattle.gil.specs.Tree.{Expr, num, bool, var, neg, Name}
-use Rattle.gil.specs.Reading.{Read, Reader, ◌>>=◌, done, nothing, token, negation, bracketed, expr_key, expr_word, expr_from, expr_deep}
+use Rattle.gil.specs.Tree.{Op, Expr, num, bool, var, neg, bin, Name}
+use Rattle.gil.specs.Reading.{Read, Reader, ◌>>=◌, ◌>>◌, done, nothing, token, the_mark, the_op, negation, bracketed, expr_key, expr_word, expr_from, expr_deep}
 use Rattle.text_words.specs.declared.keys.Key.{Key}
 use Rattle.text_words.specs.Mirror.Keys.{key_is}
 use Rattle.text_tokens.specs.declared.tokens.Place.{Place}
 use Rattle.text_tokens.specs.declared.tokens.Token.{Token}
 use Rattle.text_tokens.specs.Mirror.Seen.{name_at, Seen, a_name, a_number, a_key, a_u_site, an_i_site, a_fault, a_property, becoming, a_mark, the_end, Found}
-use Rattle.text_forms.specs.Mirror.Goes.{Goes, Passes, fails}
-use Rattle.text_forms.specs.Laws.Goes.{stops, first, ended}
+use Rattle.text_forms.specs.Mirror.Goes.{Goes, Passes, fails, anything, following}
+use Rattle.text_forms.specs.Laws.Goes.{stops, first, ended, closes, row, next}
 use Rattle.text_forms.specs.Laws.Seeing.{seen-as, reads, faults, carries}
 
 -- an expression by its first token, whose operands `r` reads
@@ -126,3 +126,16 @@ pub negation-goes : {s : List ℕ} {at : ℕ} {o : Option ℕ} (e : Reader (Expr
 unfolding negation ◌>>=◌
 negation-goes {o = None} e h g = stops _ g
 negation-goes {o = Some n} e h g = first _ g (λ a w q. ended _ n w (h a q))
+
+-- `(e op e)`
+pub bracketed-goes :
+    {s : List ℕ} {at : ℕ} {o₁ o₂ o₃ o₄ : Option ℕ} (e : Reader (Expr Name)) {A B P : Expr Name → Type 0} {O : Op → Type 0}
+    → ((a b : Expr Name) (o : Op) → A a → O o → B b → P (bin o a b))
+    → Passes s (suc at) A (e s at) o₁
+    → ((n : ℕ) → o₁ ≡ Some n → Passes s (suc n) O (the_op s n) o₂)
+    → ((n : ℕ) → o₂ ≡ Some n → Passes s (suc n) B (e s n) o₃)
+    → ((n : ℕ) → o₃ ≡ Some n → Passes s (suc n) anything (the_mark 41 s n) o₄)
+    → Passes s (suc at) P (bracketed e s at) (following o₁ (following o₂ (following o₃ o₄)))
+unfolding bracketed ◌>>=◌ ◌>>◌
+bracketed-goes e h ga go gb gm =
+    row _ ga (λ a n₁ e₁ qa. next _ (go n₁ e₁) (λ o n₂ e₂ qo. next _ (gb n₂ e₂) (λ b n₃ e₃ qb. closes (bin o a b) (gm n₃ e₃) (h a b o qa qo qb))))

@@ -1,7 +1,6 @@
 -- What reading a procedure, and all of them, does. Assumes nothing.
-use Rattle.std.specs.Prelude.{ℕ, ◌+◌, ◌≤◌, ◌<◌, ◌≡◌, Bool, List, [], ◌∷◌, ◌++◌, map, length, ltb, Option, None, Some}
+use Rattle.std.specs.Prelude.{ℕ, ◌+◌, ◌≤◌, ◌<◌, ◌≡◌, Bool, List, [], ◌∷◌, ◌++◌, map, length, ltb}
 use Rattle.gil.specs.Tree.{Cmd, Proc, Name}
-use Rattle.gil.specs.Reading.{Read, faulty, read}
 use Rattle.gil.specs.Names.{any, gather, cmd_properties, cmd_calls, jumps_past, ends_open, with_names, proc_vars}
 use Rattle.machine_code.specs.Code.{code_words, nodes_at}
 use Rattle.gil.specs.Numbers.{most_commands, most_procedures, most_properties, most_variables}
@@ -54,8 +53,3 @@ pub record Tells (s : List ℕ) (p p' k k' q q' : Names) (code code' : List ℕ)
   pub stays : unended ≡ any open_of ps
   pub long : length code' ≡ length code
   pub words : (ns nm fs fm : List Name) → Kept s most_properties p ns → Kept s most_procedures k fs → length code ≡ code_words → nodes_at + body_size (all_of ps) ≤ code_words → length (all_of ps) ≤ most_commands → length ps ≤ most_procedures → code' ≡ program_stored code (map (proc_of (with_names ns (gather props_of ps ++ nm)) (with_names fs (gather calls_of ps ++ fm))) ps)
-
--- a whole text: a fault, or something read that has `Q`
-pub data Whole {A B : Type 0} (Q : B → A → Type 0) : Read A → Option B → Type 0 where
-  unread : Whole Q faulty None
-  all_read : {a : A} {b : B} {n : ℕ} → Q b a → Whole Q (read a n) (Some b)

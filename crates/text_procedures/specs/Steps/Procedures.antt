@@ -1,6 +1,6 @@
 -- A procedure from its parts; a turn of the loop over procedures. Assumes nothing.
 use Rattle.std.specs.Prelude.{ℕ, suc, ◌+◌, ◌-◌, ◌≤◌, ◌<◌, max, min}
-use Rattle.std.specs.Prelude.{◌≡◌, Bool, true, false, not, ◌||◌, ltb, None, Some}
+use Rattle.std.specs.Prelude.{◌≡◌, Bool, true, false, not, ◌||◌, ltb, Option, None, Some}
 use Rattle.std.proofs.Math.Path.{refl, ap, subst}
 use Rattle.std.proofs.Common.{sym, ◌∙◌, arith, lt-ltb, le-ltb, ltb-true, ltb-false, length-append}
 use mathlib.Core.List.{List, [], ◌∷◌, ◌++◌, map, map-append, append-nil}
@@ -10,7 +10,7 @@ use Rattle.std.proofs.lemmas.List.Edits.{sets}
 use Rattle.std.proofs.Math.Dec.{leb-suc-suc}
 use Rattle.gil.specs.Text.{lexeme}
 use Rattle.gil.specs.Tree.{Cmd, assign, ifgoto, call, lookup, mutate, dispose, u_sym, i_sym, return, fail, vanish, Proc, Name}
-use Rattle.gil.specs.Reading.{Read, is_ended, one_or_more, procedure, procedures_of, procedures}
+use Rattle.gil.specs.Reading.{Read, ◌>>=◌, ◌>>◌, is_ended, the_mark, the_name, one_or_more, commands, procedure, procedures_of, procedures}
 use Rattle.gil.specs.Names.{any, gather, cmd_vars, cmd_properties, cmd_calls, jumps_past, with_name, with_names, distinct, proc_vars, Procedure}
 use Rattle.machine_code.specs.Code.{procedure_words, code_words, nodes_at, procedure_at}
 use Rattle.gil.specs.Numbers.{most_commands, most_procedures, most_properties, most_variables}
@@ -19,16 +19,16 @@ use Rattle.text_names.specs.declared.Names.{Names}
 use Rattle.text_names.specs.Mirror.Tables.{Kept}
 use Rattle.text_names.specs.Laws.Lists.{with_names-append}
 use Rattle.text_names.specs.Laws.Tables.{cut-tells, grows_none}
-use Rattle.text_forms.specs.Mirror.Goes.{Goes}
+use Rattle.text_forms.specs.Mirror.Goes.{Goes, fails, goes, Passes, anything, following}
 use Rattle.text_forms.specs.Mirror.Wrote.{Takes}
 use Rattle.text_forms.specs.Laws.Wrote.{grows_takes}
 use Rattle.text_forms.specs.Mirror.Stores.{put_procedure}
-use Rattle.text_forms.specs.Laws.Goes.{was_fault, Item}
+use Rattle.text_forms.specs.Laws.Goes.{was_fault, Item, closes, row, next}
 use Rattle.text_forms.specs.Laws.Stores.{procedure-long, procedure-sets}
 use Rattle.text_values.specs.Mirror.{jump_at, numbered}
 use Rattle.text_procedures.specs.Mirror.Lists.{highest, body_size, body_stored, Lists}
 use Rattle.text_procedures.specs.Mirror.Words.{proc_of, proc_stored, program_stored}
-use Rattle.text_procedures.specs.Mirror.Procedures.{Declares, wide_of, past_of, open_of, props_of, calls_of, all_of, Tells, Whole, unread, all_read}
+use Rattle.text_procedures.specs.Mirror.Procedures.{Declares, wide_of, past_of, open_of, props_of, calls_of, all_of, Tells}
 use Rattle.text_procedures.specs.Laws.Lists.{size-append}
 use Rattle.text_procedures.specs.Laws.Words.{commands-kept, nodes-kept}
 use Rattle.text_procedures.specs.Steps.Items.{join, join-join, join-none, list_fault, list_last, list_more}
@@ -118,6 +118,28 @@ declares {s} {code = code} {code₁ = code₁} {code' = code'} {v₀} {v₁} {v�
         own : List ℕ
         own = from ∷ min (most_variables + 1) (length (proc_vars r)) ∷ length (map (numbered (proc_vars r) N F) cs) ∷ []
 
+-- a procedure of any parts, where what follows a part is asked only where that was read
+pub procedure-goes :
+    {s : List ℕ} {at : ℕ} {o₁ o₂ o₃ o₄ o₅ o₆ o₇ : Option ℕ} {F X : Name → Type 0} {L : List (Cmd Name) → Type 0} {P : Proc Name → Type 0}
+    → ((f x : Name) (cs : List (Cmd Name)) → F f → X x → L cs → P (record { name = f; parameter = x; body = cs }))
+    → Passes s (suc at) F (the_name s at) o₁
+    → ((n : ℕ) → o₁ ≡ Some n → Passes s (suc n) anything (the_mark 40 s n) o₂)
+    → ((n : ℕ) → o₂ ≡ Some n → Passes s (suc n) X (the_name s n) o₃)
+    → ((n : ℕ) → o₃ ≡ Some n → Passes s (suc n) anything (the_mark 41 s n) o₄)
+    → ((n : ℕ) → o₄ ≡ Some n → Passes s (suc n) anything (the_mark 123 s n) o₅)
+    → ((n : ℕ) → o₅ ≡ Some n → Passes s (suc n) L (commands s n) o₆)
+    → ((n : ℕ) → o₆ ≡ Some n → Passes s (suc n) anything (the_mark 125 s n) o₇)
+    → Passes s (suc at) P (procedure s at) (following o₁ (following o₂ (following o₃ (following o₄ (following o₅ (following o₆ o₇))))))
+unfolding procedure ◌>>=◌ ◌>>◌
+procedure-goes h gf ga gx gb gc gd ge =
+    row _ gf (λ f n₁ e₁ qf.
+    next _ (ga n₁ e₁) (λ u₂ n₂ e₂ q₂.
+    next _ (gx n₂ e₂) (λ x n₃ e₃ qx.
+    next _ (gb n₃ e₃) (λ u₄ n₄ e₄ q₄.
+    next _ (gc n₄ e₄) (λ u₅ n₅ e₅ q₅.
+    next _ (gd n₅ e₅) (λ cs n₆ e₆ qc.
+    closes (record { name = f; parameter = x; body = cs }) (ge n₆ e₆) (h f x cs qf qx qc)))))))
+
 any-more : {A : Type 0} (f : A → Bool) (l : List A) (a : A) → any f (l ++ (a ∷ [])) ≡ any f l || f a
 unfolding any
 any-more f [] a = or_false (f a)
@@ -184,9 +206,9 @@ module _ {s code₀ code : List ℕ} {p₀ p k₀ k q₀ q : Names} {out i procs
   unfolding procedures_of
   here = let e : suc (length s) - procs ≡ suc (length s - procs) = omega (arith, u.room) in ap (λ (m : ℕ). procedures_of m s i) e
 
-  pub round_fault : {B C : Type 0} {low : ℕ} {next : B → ℕ} {Q : B → Proc Name → Type 0} {P : C → List (Proc Name) → Type 0} → Goes s low next Q (procedure s i) None → Whole P (procedures s) None
+  pub round_fault : {B C : Type 0} {low lower : ℕ} {next : B → ℕ} {next' : C → ℕ} {Q : B → Proc Name → Type 0} {P : C → List (Proc Name) → Type 0} → Goes s low next Q (procedure s i) None → Goes s lower next' P (procedures s) None
   unfolding join
-  round_fault {P = P} g = subst (λ (r : Read (List (Proc Name))). Whole P r None) (sym (u.rest ∙ ap (join u.so) (here ∙ list_fault s procedure is_ended (procedures_of (length s - procs)) i (was_fault g)))) unread
+  round_fault {lower = lower} {next' = next'} {P = P} g = subst (λ (r : Read (List (Proc Name))). Goes s lower next' P r None) (sym (u.rest ∙ ap (join u.so) (here ∙ list_fault s procedure is_ended (procedures_of (length s - procs)) i (was_fault g)))) fails
 
 module _ {s code₀ code code' : List ℕ} {p₀ p p' k₀ k k' q₀ q q' : Names} {out out' i procs commands n count : ℕ} {wide past unended w x y : Bool} (u : Round s p₀ p k₀ k q₀ q code₀ code out i procs commands wide past unended) (it : Item s (suc i) (Declares s p p' k k' q q' code code' procs commands out out' count w x y) (procedure s i) n) {procs' commands' : ℕ} {wide' past' unended' : Bool} (hn : procs' ≡ procs + 1) (hc : commands' ≡ commands + count) (hw : wide' ≡ wide || w) (hp : past' ≡ past || x) (hu : unended' ≡ unended || y) where
   now_long : length code' ≡ length code₀
@@ -232,11 +254,11 @@ module _ {s code₀ code code' : List ℕ} {p₀ p p' k₀ k k' q₀ q q' : Name
         words = now_words;
       }
 
-  pub round_last : {B : Type 0} {P : B → List (Proc Name) → Type 0} (b : B) → ((ps : List (Proc Name)) → Tells s p₀ p' k₀ k' q₀ q' code₀ code' procs' commands' wide' past' unended' ps → P b ps) → is_ended (lexeme s n).token ≡ true → Whole P (procedures s) (Some b)
-  round_last {P = P} b g e =
-      subst (λ (r : Read (List (Proc Name))). Whole P r (Some b))
+  pub round_last : {B : Type 0} {next : B → ℕ} {P : B → List (Proc Name) → Type 0} (b : B) → next b ≡ n → ((ps : List (Proc Name)) → Tells s p₀ p' k₀ k' q₀ q' code₀ code' procs' commands' wide' past' unended' ps → P b ps) → is_ended (lexeme s n).token ≡ true → Goes s 1 next P (procedures s) (Some b)
+  round_last {next = next} {P = P} b z g e =
+      subst (λ (r : Read (List (Proc Name))). Goes s 1 next P r (Some b))
       (sym (u.rest ∙ ap (join u.so) (here u ∙ list_last s procedure is_ended (procedures_of (length s - procs)) i it.item it.is e)))
-      (unfold join in all_read (g (u.so ++ (it.item ∷ [])) told))
+      (unfold join in goes z (omega (arith, it.on)) it.within (g (u.so ++ (it.item ∷ [])) told))
 
   pub round_more : is_ended (lexeme s n).token ≡ false → Round s p₀ p' k₀ k' q₀ q' code₀ code' out' n procs' commands' wide' past' unended'
   round_more e =

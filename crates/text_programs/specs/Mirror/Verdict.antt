@@ -1,5 +1,5 @@
 -- What the tests behind refusals 5 to 8 are asked of: the tables of names, counts and flags of a text that was read. Assumes nothing.
-use Rattle.std.specs.Prelude.{ℕ, ◌≡◌, Bool, not, ◌||◌, List, [], length}
+use Rattle.std.specs.Prelude.{ℕ, ◌≡◌, Bool, not, ◌||◌, List, [], length, ltb}
 use Rattle.gil.specs.Text.{bytes}
 use Rattle.gil.specs.Tree.{Proc, Name}
 use Rattle.gil.specs.Names.{any, gather, has, repeated, with_names, proc_names}
@@ -9,8 +9,12 @@ use Rattle.text_names.specs.Mirror.Tables.{Kept, known}
 use Rattle.text_procedures.specs.Mirror.Procedures.{wide_of, past_of, open_of, props_of, calls_of}
 
 -- some name of the table `k` is none of the table `t`
+unfoldable pub any_missing : List ℕ → Names → Names → Bool
+any_missing s k t = any (λ w. not (has w (known s t))) (known s k)
+
+-- the same, or there are too many
 unfoldable pub any_lost : List ℕ → Names → Names → Bool
-any_lost s k t = any (λ w. not (has w (known s t))) (known s k)
+any_lost s k t = ltb most_procedures k.count || any_missing s k t
 
 -- refusal 6 by the names alone
 unfoldable pub wrong_with : List Name → List Name → Bool

@@ -1,5 +1,5 @@
 -- Why what reading a text promises is kept. Assumes nothing.
-use Rattle.std.specs.Prelude.{ℕ, zero, suc, ◌≤◌, ◌<◌, min, ◌≡◌, Bool, length, take, get_or, set, replicate, None, Some}
+use Rattle.std.specs.Prelude.{ℕ, zero, suc, ◌≤◌, ◌<◌, min, ◌≡◌, Bool, length, take, get_or, set, replicate}
 use Rattle.std.proofs.Math.Path.{refl, ap}
 use Rattle.std.proofs.Common.{sym, ◌∙◌, subst, arith, take_all, get_or-take}
 use mathlib.Core.List.{List, [], ◌∷◌, ◌++◌, map, append-nil}
@@ -25,7 +25,7 @@ use Rattle.text_names.specs.declared.Names.{Names}
 use Rattle.text_names.specs.Mirror.Tables.{Kept, known, number_in, most_names}
 use Rattle.text_names.specs.Laws.Distinct.{distinct-is}
 use Rattle.text_procedures.specs.Mirror.Words.{proc_of, bodies, program_stored}
-use Rattle.text_procedures.specs.Mirror.Procedures.{props_of, calls_of, Tells, Whole, unread, all_read}
+use Rattle.text_procedures.specs.Mirror.Procedures.{props_of, calls_of, Tells}
 use Rattle.text_procedures.specs.Laws.Words.{commands-kept, nodes-kept, proc_is}
 use Rattle.text_procedures.specs.Laws.Procedures.{named-gather}
 use Rattle.text_programs.specs.Mirror.Linked.{relink_proc, callee_in, nowhere, Links}
@@ -34,19 +34,6 @@ use Rattle.text_programs.specs.Steps.Linked.{all-procs, linked-is}
 use Rattle.text_programs.specs.Steps.Joined.{program-joined}
 use Rattle.text_programs.specs.Steps.Verdict.{answer-read, told}
 use Rattle.text_programs.specs.Mirror.Verdict.{Told}
-
--- what was read of a whole text, and that nothing was
-pub record Item {A : Type 0} (P : A → Type 0) (r : Read A) : Type 0 where
-  pub item : A
-  pub place : ℕ
-  pub is : r ≡ read item place
-  pub has : P item
-
-pub whole_read : {A B : Type 0} {Q : B → A → Type 0} {r : Read A} {b : B} → Whole Q r (Some b) → Item (Q b) r
-whole_read (all_read {a} {n = n} q) = record { item = a; place = n; is = refl; has = q }
-
-pub whole_fault : {A B : Type 0} {Q : B → A → Type 0} {r : Read A} → Whole Q r None → r ≡ faulty
-whole_fault unread = refl
 
 -- a text that is refused
 pub reads-refused : {s code : List ℕ} {names : Names} {r : ℕ} → r ≡ check_call s → (r ≡ 0 → ⊥) → Reads s code names r

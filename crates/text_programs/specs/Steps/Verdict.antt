@@ -23,7 +23,7 @@ use Rattle.text_names.specs.Laws.Distinct.{any-with_names, distinct-is, repeated
 use Rattle.text_names.specs.Laws.Tables.{cut-tells}
 use Rattle.text_procedures.specs.Mirror.Procedures.{props_of, calls_of, Tells}
 use Rattle.text_procedures.specs.Laws.Procedures.{named-gather}
-use Rattle.text_programs.specs.Mirror.Verdict.{any_lost, wrong_with, Told}
+use Rattle.text_programs.specs.Mirror.Verdict.{any_missing, any_lost, wrong_with, Told}
 
 -- a name that is found in a table is one of its names
 found-some : (w : Name) (ns : List Name) (o : Option ℕ) → FoundIn w ns o → is_some o ≡ has w ns
@@ -46,6 +46,11 @@ unfolding known
 found-few s t w None e = omega arith
 found-few s t w (Some i) e = omega (arith, e.1, length-map (take (min t.count t.most) t.places) (name_at s), length-take (min t.count t.most) t.places)
 
+pub found-within : (s : List ℕ) (t : Names) (w : Name) (o : Option ℕ) (d : ℕ) → FoundIn w (known s t) o → d ≤ t.count → unwrap_or o d ≤ t.count
+unfolding known
+found-within s t w None d e l = l
+found-within s t w (Some i) d e l = omega (arith, e.1, length-map (take (min t.count t.most) t.places) (name_at s), length-take (min t.count t.most) t.places)
+
 pub list-any : {A : Type 0} (f : A → Bool) (l : List A) → list_any f l ≡ any f l
 unfolding any
 list-any f [] = refl
@@ -62,6 +67,10 @@ module _ (s : List ℕ) (q k : Names) (ns fs : List Name) (kq : Kept s most_proc
   unfolding wrong_with
   names-repeated h = sym (rw (repeated-is ns ∙ ap not (ne_eqb (length (with_names [] ns)) (length ns) (λ d. h (omega (arith, kq.counted, d)))), wrong_with))
 
+  lost-any : any_lost s k q ≡ ltb k.most k.count || any_missing s k q
+  unfolding any_lost
+  lost-any = ap (λ (m : ℕ). ltb m k.count || any_missing s k q) (sym kk.most)
+
   module _ (same : q.count ≡ count) where
     one : repeated ns ≡ false
     one = repeated-is ns ∙ ap not (eq-eqb (length (with_names [] ns)) (length ns) (omega (arith, kq.counted)))
@@ -76,13 +85,16 @@ module _ (s : List ℕ) (q k : Names) (ns fs : List Name) (kq : Kept s most_proc
         ap (λ (j : ℕ). map (name_at s) (take j q.places)) d ∙ kq.named ∙ ap (take most_procedures) all ∙ take_all most_procedures ns (omega arith)
 
     -- over 16 callees are not all procedures
-    pub names-over : ltb k.most k.count ≡ true → true ≡ wrong_with ns fs
-    unfolding wrong_with
-    names-over e = sym (rw (one, lost (any (λ f. not (has f ns)) fs) refl, wrong_with))
+    over : ltb k.most k.count ≡ true → any (λ f. not (has f ns)) fs ≡ true
+    over e = lost (any (λ f. not (has f ns)) fs) refl
       where
         lost : (y : Bool) → any (λ f. not (has f ns)) fs ≡ y → any (λ f. not (has f ns)) fs ≡ true
         lost true g = g
         lost false g = absurd (omega (arith, ltb-true k.most k.count e, kk.most, kk.counted, few-distinct fs ns g))
+
+    pub calls-over : ltb k.most k.count ≡ true → true ≡ wrong_with ns fs
+    unfolding wrong_with
+    calls-over e = sym (rw (one, over e, wrong_with))
 
     module _ (few : ltb k.most k.count ≡ false) where
       called : known s k ≡ with_names [] fs
@@ -92,9 +104,9 @@ module _ (s : List ℕ) (q k : Names) (ns fs : List Name) (kq : Kept s most_proc
           let b : length (with_names [] fs) ≤ most_procedures = omega (arith, ltb-false k.most k.count few, kk.counted, kk.most) in
           ap (λ (j : ℕ). map (name_at s) (take j k.places)) d ∙ kk.named ∙ take_all most_procedures (with_names [] fs) b
 
-      lost-calls : any_lost s k q ≡ any (λ f. not (has f ns)) fs
-      unfolding any_lost
-      lost-calls =
+      missing-calls : any_missing s k q ≡ any (λ f. not (has f ns)) fs
+      unfolding any_missing
+      missing-calls =
           ap (λ (l : List Name). any (λ w. not (has w l)) (known s k)) table
           ∙ ap (any (λ w. not (has w ns))) called
           ∙ any-with_names (λ f. not (has f ns)) [] fs
@@ -103,13 +115,27 @@ module _ (s : List ℕ) (q k : Names) (ns fs : List Name) (kq : Kept s most_proc
           none : any (λ f. not (has f ns)) [] || any (λ f. not (has f ns)) fs ≡ any (λ f. not (has f ns)) fs
           none = unfold any in refl
 
-      pub names_missing : any_lost s k q ≡ true → true ≡ wrong_with ns fs
-      unfolding wrong_with
-      names_missing e = sym (rw (one, sym lost-calls ∙ e, wrong_with))
+      -- as many callees as there is room for are lost exactly where one is missing
+      pub lost-few : any_lost s k q ≡ any_missing s k q
+      lost-few = lost-any ∙ ap (λ (x : Bool). x || any_missing s k q) few
 
-      pub names-main : (o : Option ℕ) (r : Bool) → is_some o ≡ not r → any_lost s k q ≡ false → FoundIn (bytes "main") (known s q) o → r ≡ wrong_with ns fs
-      unfolding wrong_with
-      names-main o r z e f = found-none (bytes "main") (known s q) o r z f ∙ ap (λ (l : List Name). not (has (bytes "main") l)) table ∙ sym (rw (one, sym lost-calls ∙ e, wrong_with))
+    lost-calls : any_lost s k q ≡ any (λ f. not (has f ns)) fs
+    lost-calls = at (ltb k.most k.count) refl
+      where
+        at : (x : Bool) → ltb k.most k.count ≡ x → any_lost s k q ≡ any (λ f. not (has f ns)) fs
+        at true e = lost-any ∙ ap (λ (x : Bool). x || any_missing s k q) e ∙ sym (over e)
+        at false e = lost-few e ∙ missing-calls e
+
+    pub names_missing : any_lost s k q ≡ true → true ≡ wrong_with ns fs
+    unfolding wrong_with
+    names_missing e = sym (rw (one, sym lost-calls ∙ e, wrong_with))
+
+    pub names-main : (o : Option ℕ) (r : Bool) → is_some o ≡ not r → any_lost s k q ≡ false → FoundIn (bytes "main") (known s q) o → r ≡ wrong_with ns fs
+    unfolding wrong_with
+    names-main o r z e f = found-none (bytes "main") (known s q) o r z f ∙ ap (λ (l : List Name). not (has (bytes "main") l)) table ∙ sym (rw (one, sym lost-calls ∙ e, wrong_with))
+
+  pub names-over : most_procedures < q.count → q.count ≡ count → true ≡ wrong_with ns fs
+  names-over h e = absurd (omega arith)
 
 -- the answer by the four tests
 unfoldable pub answer_by : Bool → Bool → Bool → Bool → ℕ
@@ -118,6 +144,15 @@ answer_by false true c d = for_names
 answer_by false false true d = for_jump
 answer_by false false false true = for_end
 answer_by false false false false = 0
+
+-- as the code chooses
+pub answer_chain : (a b c d : Bool) {r₈ r₇ r₆ r : ℕ} → r₈ ≡ elim d [ true ↦ for_end | false ↦ 0 ] → r₇ ≡ elim c [ true ↦ for_jump | false ↦ r₈ ] → r₆ ≡ elim b [ true ↦ for_names | false ↦ r₇ ] → r ≡ elim a [ true ↦ for_limits | false ↦ r₆ ] → r ≡ answer_by a b c d
+unfolding answer_by
+answer_chain true b c d e f g h = h
+answer_chain false true c d e f g h = h ∙ g
+answer_chain false false true d e f g h = h ∙ g ∙ f
+answer_chain false false false true e f g h = h ∙ g ∙ f ∙ e
+answer_chain false false false false e f g h = h ∙ g ∙ f ∙ e
 
 answer-by : (rs : List (Proc Name)) (n : ℕ) → text_answer (tested (read rs n)) ≡ answer_by (over_limits rs) (wrong_names rs) (wrong_jump rs) (wrong_end rs)
 unfolding tested

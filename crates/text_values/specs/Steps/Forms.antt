@@ -5,15 +5,16 @@ use Rattle.std.proofs.Common.{◌∙◌, arith}
 use Rattle.std.proofs.Math.Bool.{true, false}
 use Rattle.gil.specs.Text as Text
 use Rattle.gil.specs.Text.{Word, lexeme}
-use Rattle.gil.specs.Tree.{Expr, var, Cmd, assign, u_sym, i_sym, Name}
-use Rattle.gil.specs.Reading.{Read, faulty, Reader, after, ◌>>=◌, ◌>>◌, done, nothing, token, ahead, is_mark, the_name, expr_key, expr_word, expr_from, expr_deep, expr, assignment, call_of, call_or_var, named, lookup_of, mutate_of, dispose_of, value_key, value_word, value_from}
+use Rattle.gil.specs.Tree.{Expr, var, Cmd, assign, call, lookup, mutate, dispose, u_sym, i_sym, Name}
+use Rattle.gil.specs.Numbers.{most_depth}
+use Rattle.gil.specs.Reading.{Read, faulty, Reader, after, ◌>>=◌, ◌>>◌, done, nothing, token, ahead, is_mark, the_mark, the_name, expr_key, expr_word, expr_from, expr_deep, expr, assignment, call_of, call_or_var, named, lookup_of, mutate_of, dispose_of, value_key, value_word, value_from}
 use Rattle.text_words.specs.declared.keys.Key.{Key}
 use Rattle.text_words.specs.Mirror.Keys.{key_is}
 use Rattle.text_tokens.specs.declared.tokens.Place.{Place}
 use Rattle.text_tokens.specs.declared.tokens.Token.{Token}
 use Rattle.text_tokens.specs.Mirror.Seen.{name_at, Seen, a_name, a_number, a_key, a_u_site, an_i_site, a_fault, a_property, becoming, a_mark, the_end, Found}
-use Rattle.text_forms.specs.Mirror.Goes.{Goes, fails, Gives}
-use Rattle.text_forms.specs.Laws.Goes.{weaken, first, ended}
+use Rattle.text_forms.specs.Mirror.Goes.{Goes, fails, Passes, Gives, anything, following}
+use Rattle.text_forms.specs.Laws.Goes.{weaken, first, ended, closes, closes-with, row, next}
 use Rattle.text_forms.specs.Laws.Seeing.{seen-as, reads, carries}
 use Rattle.text_forms.specs.Steps.Exprs.{expr-reserved}
 use Rattle.text_values.specs.Mirror.{opening, Opens, broken, opened}
@@ -25,6 +26,60 @@ opens-stops {s} {low = low} {next = next} {P} f (broken h) = subst (λ (r : Read
 
 pub opens-first : {s : List ℕ} {at q n : ℕ} {B : Type 0} {E : Expr Name → Type 0} {R : ℕ → Name → Type 0} {next : B → ℕ} {P : B → Cmd Name → Type 0} {o : Option B} (f : Expr Name → Name → Reader (Cmd Name)) → Opens s at E R (Some (q, n)) → ((e : Expr Name) (p : Name) → E e → R q p → Goes s n next P (f e p s n) o) → Goes s (suc at) next P (opening f s at) o
 opens-first {s} {at} {next = next} {P} {o} f (opened {e} {p} h l w x y) k = subst (λ (r : Read (Cmd Name)). Goes s (suc at) next P r o) (sym (h f)) (weaken l (k e p x y))
+
+-- each form of any parts, where what follows a part is asked only where that was read
+module _ {s : List ℕ} {P : Cmd Name → Type 0} (v : Name) {E : Expr Name → Type 0} where
+  pub plain-goes : {at : ℕ} {o : Option ℕ} → ((e : Expr Name) → E e → P (assign v e)) → Passes s (suc at) E (expr_deep most_depth s at) o → Passes s (suc at) P (assignment v s at) o
+  unfolding assignment ◌>>=◌ expr
+  plain-goes h g = closes-with (assign v) h g
+
+  pub call-goes :
+      {at : ℕ} {o₁ o₂ o₃ : Option ℕ} (f : Name)
+      → ((e : Expr Name) → E e → P (call v f e))
+      → Passes s (suc at) anything (the_mark 40 s at) o₁
+      → ((n : ℕ) → o₁ ≡ Some n → Passes s (suc n) E (expr_deep most_depth s n) o₂)
+      → ((n : ℕ) → o₂ ≡ Some n → Passes s (suc n) anything (the_mark 41 s n) o₃)
+      → Passes s (suc at) P (call_of v f s at) (following o₁ (following o₂ o₃))
+  unfolding call_of ◌>>=◌ ◌>>◌ expr
+  call-goes f h ga ge gm = row _ ga (λ u n₁ e₁ q. next _ (ge n₁ e₁) (λ e n₂ e₂ qe. closes (call v f e) (gm n₂ e₂) (h e qe)))
+
+  pub dispose-goes :
+      {at : ℕ} {o₁ o₂ o₃ : Option ℕ}
+      → ((e : Expr Name) → E e → P (dispose v e))
+      → Passes s (suc at) anything (the_mark 40 s at) o₁
+      → ((n : ℕ) → o₁ ≡ Some n → Passes s (suc n) E (expr_deep most_depth s n) o₂)
+      → ((n : ℕ) → o₂ ≡ Some n → Passes s (suc n) anything (the_mark 41 s n) o₃)
+      → Passes s (suc at) P (dispose_of v s at) (following o₁ (following o₂ o₃))
+  unfolding dispose_of ◌>>=◌ ◌>>◌ expr
+  dispose-goes h ga ge gm = row _ ga (λ u n₁ e₁ q. next _ (ge n₁ e₁) (λ e n₂ e₂ qe. closes (dispose v e) (gm n₂ e₂) (h e qe)))
+
+  pub lookup-goes :
+      {at : ℕ} {c : Option (ℕ × ℕ)} {o₁ o₂ : Option ℕ} {R : ℕ → Name → Type 0}
+      → ((e : Expr Name) (p : Name) (q : ℕ) → E e → R q p → P (lookup v e p))
+      → Opens s at E R c
+      → ((q n : ℕ) → c ≡ Some (q, n) → Passes s (suc n) anything (the_mark 93 s n) o₁)
+      → ((n : ℕ) → o₁ ≡ Some n → Passes s (suc n) anything (the_mark 41 s n) o₂)
+      → Passes s (suc at) P (lookup_of v s at) (following c (following o₁ o₂))
+  unfolding lookup_of opening ◌>>=◌ ◌>>◌ following
+  lookup-goes {c = None} h g gd gm = opens-stops (λ e p. the_mark 93 >> (the_mark 41 >> done (lookup v e p))) g
+  lookup-goes {c = Some (q, n)} h g gd gm =
+      opens-first (λ e p. the_mark 93 >> (the_mark 41 >> done (lookup v e p))) g
+      (λ e p x y. next _ (gd q n refl) (λ u n₁ e₁ z. closes (lookup v e p) (gm n₁ e₁) (h e p q x y)))
+
+  pub mutate-goes :
+      {at : ℕ} {c : Option (ℕ × ℕ)} {o₁ o₂ o₃ o₄ : Option ℕ} {R : ℕ → Name → Type 0} {D : Expr Name → Type 0}
+      → ((e d : Expr Name) (p : Name) (q : ℕ) → E e → R q p → D d → P (mutate v e p d))
+      → Opens s at E R c
+      → ((q n : ℕ) → c ≡ Some (q, n) → Passes s (suc n) anything (the_mark 44 s n) o₁)
+      → ((n : ℕ) → o₁ ≡ Some n → Passes s (suc n) D (expr_deep most_depth s n) o₂)
+      → ((n : ℕ) → o₂ ≡ Some n → Passes s (suc n) anything (the_mark 93 s n) o₃)
+      → ((n : ℕ) → o₃ ≡ Some n → Passes s (suc n) anything (the_mark 41 s n) o₄)
+      → Passes s (suc at) P (mutate_of v s at) (following c (following o₁ (following o₂ (following o₃ o₄))))
+  unfolding mutate_of opening ◌>>=◌ ◌>>◌ expr following
+  mutate-goes {c = None} h g gd gw gf gm = opens-stops (λ e p. the_mark 44 >> (expr >>= λ d. the_mark 93 >> (the_mark 41 >> done (mutate v e p d)))) g
+  mutate-goes {c = Some (q, n)} h g gd gw gf gm =
+      opens-first (λ e p. the_mark 44 >> (expr >>= λ d. the_mark 93 >> (the_mark 41 >> done (mutate v e p d)))) g
+      (λ e p x y. next _ (gd q n refl) (λ u₁ n₁ e₁ z₁. next _ (gw n₁ e₁) (λ d n₂ e₂ qd. next _ (gf n₂ e₂) (λ u₃ n₃ e₃ z₃. closes (mutate v e p d) (gm n₃ e₃) (h e d p q x y qd)))))
 
 -- a name after `v :=`
 module _ {s : List ℕ} (v : Name) {at n : ℕ} {place : Place} (gn : Gives s (suc at) (λ (p : Place) (w : Name). name_at s p ≡ w) (the_name s at) (Some (place, n))) where

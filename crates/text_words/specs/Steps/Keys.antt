@@ -1,9 +1,11 @@
 -- Reserved words as the code finds them come to those of the definitions. Assumes nothing.
-use Rattle.std.specs.Prelude.{ℕ, ◌≡◌, refl, Bool, true, false, List, [], ◌∷◌, get_or, length, Option, Some, None}
-use Rattle.std.proofs.Common.{sym, ap, ◌∙◌, ne_eqb, arith}
+use Rattle.std.specs.Prelude.{ℕ, zero, suc, ◌+◌, ◌≤◌, ◌<◌, ◌≡◌, refl, Bool, true, false, List, [], ◌∷◌, map, drop, get_or, length, Option, Some, None}
+use Rattle.std.proofs.Common.{sym, ap, ◌∙◌, ne_eqb, arith, add-one, drop-cons, drop_of_length-le}
 use Rattle.std.proofs.Math.Option as M
-use Rattle.gil.specs.Text.{find, same, bytes, reserved_words}
+use Rattle.gil.specs.Text as Text
+use Rattle.gil.specs.Text.{find, same, bytes, reserved_words, k_ifgoto}
 use Rattle.gil.proofs.Theory.Tests.{no_false}
+use Rattle.text_words.specs.declared.keys.TheConstants.{RESERVED}
 use Rattle.text_words.specs.declared.keys.Key.{Key}
 use Rattle.text_words.specs.declared.keys.Key.TheVariants.{Ifgoto, Return, Fail, Vanish, True, False, Not, And, Or, Lookup, Mutate, Dispose}
 use Rattle.text_words.specs.Mirror.Keys.{key_is, keyed, reserved, started_by}
@@ -25,6 +27,26 @@ started-is Lookup = refl
 started-is Mutate = refl
 started-is Dispose = refl
 
+-- an entry of the code's table, and as the definitions have it
+abbrev pub Entry : Type 0
+Entry = record { now : List ℕ } × Key
+
+abbrev pub entry : Entry → List ℕ × Text.Key
+entry e = (e.0.now, key_is e.1)
+
+-- the code's table holds the definitions' reserved words, each by its number and with its key, and no other
+pub whole_table : map entry RESERVED ≡ reserved_words
+unfolding reserved_words bytes key_is
+whole_table = refl
+
+words-of : (l : List Entry) (k : ℕ) → get_or (map (λ (e : Entry). e.0.now) l) k [] ≡ (get_or (map entry l) k ([], k_ifgoto)).0
+words-of [] k = refl
+words-of (e ∷ l) zero = refl
+words-of (e ∷ l) (suc k) = words-of l k
+
+pub table_is : (k : ℕ) → get_or (map (λ (e : Entry). e.0.now) RESERVED) k [] ≡ (get_or reserved_words k ([], k_ifgoto)).0
+table_is k = words-of RESERVED k ∙ ap (λ (l : List (List ℕ × Text.Key)). (get_or l k ([], k_ifgoto)).0) whole_table
+
 found-is : (k : Key) → find (reserved k) reserved_words ≡ M.some (key_is k)
 unfolding find same reserved reserved_words bytes key_is
 found-is Ifgoto = refl
@@ -39,6 +61,19 @@ found-is Or = refl
 found-is Lookup = refl
 found-is Mutate = refl
 found-is Dispose = refl
+
+-- the reserved words one by one
+pub find-end : (w : List ℕ) (k : ℕ) → length reserved_words ≤ k → find w (drop k reserved_words) ≡ keyed None
+unfolding find keyed
+find-end w k h = rw (drop_of_length-le reserved_words h)
+
+module _ (w : List ℕ) (k : ℕ) (h : k < length reserved_words) where
+  find-step : find w (drop k reserved_words) ≡ elim (same w (get_or reserved_words k ([], k_ifgoto)).0) [ true ↦ M.some (get_or reserved_words k ([], k_ifgoto)).1 | false ↦ find w (drop (suc k) reserved_words) ]
+  unfolding find
+  find-step = ap (find w) (drop-cons reserved_words k ([], k_ifgoto) h)
+
+  pub find-more : same w (get_or reserved_words k ([], k_ifgoto)).0 ≡ false → find w (drop k reserved_words) ≡ find w (drop (k + 1) reserved_words)
+  find-more e = rw (add-one k) (find-step ∙ rw e)
 
 key_or : Key → Option Key → Key
 key_or d None = d

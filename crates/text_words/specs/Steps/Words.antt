@@ -1,10 +1,10 @@
 -- Symbols and identifiers as the code finds them: each comes to what the definitions say a run is. Assumes nothing.
 use Rattle.std.specs.Prelude.{ℕ, ◌≤◌, ◌<◌, ◌≡◌, refl, true, false, List, [], ◌∷◌, take, drop, length, get_or, eqb, Option, Some, None}
 use Rattle.std.specs.Cmp.Lexicographic.{pointwise}
-use Rattle.std.proofs.Common.{sym, ap, ◌∙◌, arith, le-leb}
+use Rattle.std.proofs.Common.{sym, ap, ◌∙◌, arith, le-leb, length-take}
 use Rattle.std.proofs.lemmas.Bool.{lt-leb}
 use Rattle.std.proofs.Math.Option as M
-use Rattle.gil.specs.Text.{number, u_site, i_site, reserved_words, find, numeral, numbered, letter, symbol, u_sym_prefix, i_sym_prefix, identifier, identified, word_of}
+use Rattle.gil.specs.Text.{bytes, number, u_site, i_site, reserved_words, find, numeral, numbered, letter, symbol, u_sym_prefix, i_sym_prefix, identifier, identified, word_of}
 use Rattle.gil.specs.Numbers.{largest_number, largest_site, most_characters}
 use Rattle.text_words.specs.declared.keys.Key.{Key}
 use Rattle.text_words.specs.declared.words.Word.{Word}
@@ -13,6 +13,7 @@ use Rattle.text_words.specs.Mirror.Keys.{keyed}
 use Rattle.text_words.specs.Mirror.Numbers.{counted}
 use Rattle.text_words.specs.Mirror.Words.{said}
 use Rattle.text_words.specs.Laws.Words.{same-eq}
+use Rattle.text_words.specs.Steps.Same.{same_lengths}
 
 -- a number, as each word that holds one
 unfoldable pub with_number : (ℕ → Word) → Option ℕ → Option Word
@@ -43,6 +44,12 @@ module _ (w : List ℕ) where
   pub symbol-i : (d : List ℕ) (o : Option ℕ) → pointwise eqb (take 5 w) u_sym_prefix ≡ false → pointwise eqb (take 5 w) i_sym_prefix ≡ true → d ≡ drop 5 w → numeral largest_site d ≡ counted o → symbol w ≡ said w (with_number ISite o)
   unfolding symbol
   symbol-i d o n e f g = rw (sym (same-eq (take 5 w) u_sym_prefix) ∙ n, symbol) (rw (sym (same-eq (take 5 w) i_sym_prefix) ∙ e) (ap (λ (x : List ℕ). numbered (numeral largest_site x) i_site) (sym f) ∙ ap (λ (x : M.Option ℕ). numbered x i_site) g ∙ said-i o))
+
+  pub symbol-short : length w < 5 → symbol w ≡ said w (Some Name)
+  unfolding symbol said
+  symbol-short h =
+      rw (same_lengths (take 5 w) u_sym_prefix (unfold u_sym_prefix bytes in (λ e. omega (arith, length-take 5 w))), symbol)
+      (rw (same_lengths (take 5 w) i_sym_prefix (unfold i_sym_prefix bytes in (λ e. omega (arith, length-take 5 w)))))
 
   pub symbol-name : pointwise eqb (take 5 w) u_sym_prefix ≡ false → pointwise eqb (take 5 w) i_sym_prefix ≡ false → symbol w ≡ said w (Some Name)
   unfolding symbol said

@@ -12,7 +12,7 @@ pub returns-in_err-declared-clause-read : goal.returns-in_err-declared-clause-re
 returns-in_err-declared-clause-read c = rw c.from_residual.ensures (round_fault c.loop-declared.invariant.0 c.in_err-declared.ensures.read)
 
 pub returns-in-Ended-clause-read : goal.returns-in-Ended-clause-read
-returns-in-Ended-clause-read c = round_last c.loop-declared.invariant.0 (was_read c.in_ok-declared.ensures.read) c.counted-tally.ensures.0 c.counted-tally.ensures.1 c.counted-tally.ensures.2 c.counted-tally.ensures.3 c.counted-tally.ensures.4 _ (λ ps t. t) (ended-seen (seen-as c.token.ensures c.in-Ended.is))
+returns-in-Ended-clause-read c = round_last c.loop-declared.invariant.0 (was_read c.in_ok-declared.ensures.read) c.counted-tally.ensures.0 c.counted-tally.ensures.1 c.counted-tally.ensures.2 c.counted-tally.ensures.3 c.counted-tally.ensures.4 _ refl (λ ps t. t) (ended-seen (seen-as c.token.ensures c.in-Ended.is))
 
 pub loop-declared-preserved : goal.loop-declared-preserved
 loop-declared-preserved c = (round_more c.loop-declared.invariant.0 (was_read c.in_ok-declared.ensures.read) c.counted-tally.ensures.0 c.counted-tally.ensures.1 c.counted-tally.ensures.2 c.counted-tally.ensures.3 c.counted-tally.ensures.4 (ended-not c.token.ensures.seen c.in_default.not-Ended), c.in_ok-declared.ensures.same ∙ c.loop-declared.invariant.1, omega (arith, c.loop-declared.invariant.2, c.counted-tally.ensures.0, c.counted-tally.ensures.1, c.in_ok-declared.ensures.short))

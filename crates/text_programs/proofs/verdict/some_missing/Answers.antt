@@ -8,12 +8,12 @@ use Rattle.gil.specs.Tree.{Name}
 use Rattle.gil.specs.Names.{any, has}
 use Rattle.text_tokens.specs.Mirror.Seen.{name_at}
 use Rattle.text_names.specs.Mirror.Tables.{known}
-use Rattle.text_programs.specs.Mirror.Verdict.{any_lost}
+use Rattle.text_programs.specs.Mirror.Verdict.{any_missing}
 use Rattle.text_programs.specs.Steps.Verdict.{list-any, any-map}
 use Rattle.text_programs.proofs.verdict.some_missing.Goals as goal
 
 pub returns : goal.returns
-unfolding any_lost known
+unfolding any_missing known
 returns c =
     let e : c.any.result ≡ list_any (λ p. not (has (name_at c.args.text.now p) (known c.args.text.now c.args.procs.now))) (take c.min-count.result c.args.calls.now.places) = any_from_yields_List (λ p. not (has (name_at c.args.text.now p) (known c.args.text.now c.args.procs.now))) _ _ c.any.result c.any.ensures.ran (YieldsList-from_slice _ c.iter.ensures.rest) (λ x b q k. search (rules, tests)) in
     e
