@@ -1,7 +1,5 @@
 // A row of a table, or the plain run's answer, as one part of a line.
-ghost use Rattle.std.specs.Prelude.{ℕ, ◌<◌};
-
-use crate::bytes::zero;
+use crate::bytes::{rest, zero};
 use crate::values::{Truth, Value};
 use gil::layout;
 use gil::layout::{CELLS_AT, CONDITIONS_AT, ROW_BYTES, VARIABLES_AT};
@@ -17,7 +15,7 @@ const VARIABLE_BYTES: usize = 8;
 
 const CELL_BYTES: usize = 16;
 
-// A condition: its term, and the truth it must have.
+// A condition, by the bytes from it on: its term, and the truth it must have.
 #[derive(Clone, Copy)]
 struct Condition<'a>(&'a [u8]);
 
@@ -29,7 +27,7 @@ impl fmt::Display for Condition<'_> {
     }
 }
 
-// A cell: its location and property, and its value.
+// A cell, by the bytes from it on: its location and property, and its value.
 #[derive(Clone, Copy)]
 struct Cell<'a>(&'a [u8]);
 
@@ -45,24 +43,26 @@ impl fmt::Display for Cell<'_> {
     }
 }
 
-// How many of something there are, and the first of them, each of `size` bytes.
+// How many of something there are, and the first of them, `most` at most, each of `size` bytes; also those that the bytes end before.
 fn list<'a, W: fmt::Write, D: fmt::Display + Drop, F: Fn(&'a [u8]) -> D>(
     f: &mut fmt::Formatter<W>,
     name: &str,
     count: u32,
+    most: usize,
     bytes: &'a [u8],
     size: usize,
     shown: F,
 ) -> fmt::Result
-    requires sized { 0 < size }
-    requires callable { F.IsAlwaysCallable shown }
+    requires { F.IsAlwaysCallable shown }
 {
     write!(f, ", {name} {count}")?;
     if count > 0 {
         write!(f, ":")?;
     }
-    for part in bytes.chunks_exact(size).take(count as usize) {
-        write!(f, " {}", shown(part))?;
+    let mut bytes = bytes;
+    for _ in 0..most.min(count as usize) {
+        write!(f, " {}", shown(bytes))?;
+        bytes = rest(bytes, size);
     }
     Ok(())
 }
@@ -83,20 +83,15 @@ fn reason<W: fmt::Write>(f: &mut fmt::Formatter<W>, w: u32) -> fmt::Result {
     }
 }
 
-// A row, by its bytes: how it ended, its position as procedure and command, steps, inputs read, conditions as terms with their truth, variables,
-// cells.
+// A row, by the bytes from it on: how it ended, its position as procedure and command, steps, inputs read, conditions as terms with their truth,
+// variables, cells.
 #[derive(Clone, Copy)]
 pub struct Row<'a>(pub &'a [u8]);
 
 impl<'a> Row<'a> {
-    // Word k of the row's head.
-    fn word(&self, k: u32) -> u32 {
+    // Word k of the row.
+    pub fn word(&self, k: u32) -> u32 {
         word_at(self.0, 4 * (k as usize))
-    }
-
-    // The bytes from one place to another, where they are there.
-    fn part(&self, from: usize, to: usize) -> &'a [u8] {
-        self.0.get(from..to).unwrap_or(&[])
     }
 
     // How the path ended.
@@ -134,22 +129,24 @@ impl<'a> Row<'a> {
 
     // Conditions, variables and cells.
     fn lists<W: fmt::Write>(&self, f: &mut fmt::Formatter<W>) -> fmt::Result {
-        let conditions = self.part(CONDITIONS_AT, VARIABLES_AT);
+        let conditions = rest(self.0, CONDITIONS_AT);
         let count = self.word(layout::CONDITIONS_WORD);
         list(
             f,
             "conditions",
             count,
+            MOST_BRANCHES as usize,
             conditions,
             CONDITION_BYTES,
             Condition,
         )?;
-        let variables = self.part(VARIABLES_AT, CELLS_AT);
+        let variables = rest(self.0, VARIABLES_AT);
         let count = self.word(layout::VARIABLES_WORD);
         list(
             f,
             "variables",
             count,
+            MOST_VARIABLES,
             variables,
             VARIABLE_BYTES,
             |b| Value {
@@ -157,9 +154,9 @@ impl<'a> Row<'a> {
                 word: word_at(b, 4),
             },
         )?;
-        let cells = self.part(CELLS_AT, CELLS_AT + CELL_BYTES * MOST_CELLS);
+        let cells = rest(self.0, CELLS_AT);
         let count = self.word(layout::CELLS_WORD);
-        list(f, "cells", count, cells, CELL_BYTES, Cell)
+        list(f, "cells", count, MOST_CELLS, cells, CELL_BYTES, Cell)
     }
 
     // Whether every word of the row that holds nothing is zero.

@@ -1,8 +1,8 @@
 // A table and its pool: a row a line, a term a line. Of more than 20 rows or 40 terms the first two and the last two are shown; all of
 // them are looked at for words that hold nothing.
-ghost use Rattle.std.specs.Prelude.{◌≤◌};
+ghost use Rattle.std.specs.Prelude.{◌≤◌, ◌<◌};
 
-use crate::bytes::zero;
+use crate::bytes::{rest, zero};
 use crate::rows::Row;
 use crate::values::Term;
 use gil::layout::{HEADING_BYTES, POOL_BYTES, ROW_BYTES, TABLE_BYTES, TERM_BYTES};
@@ -37,9 +37,17 @@ impl<'a> Table<'a> {
         word_at(self.table, 4).min(MOST_TERMS) as usize
     }
 
-    // The bytes after the heading.
-    fn rows(&self) -> &'a [u8] {
-        self.table.get(HEADING_BYTES..).unwrap_or(&[])
+    // Row i, also where the table ends before it.
+    fn row(&self, i: usize) -> Row<'a>
+        requires { i < 64 }
+    {
+        Row(rest(self.table, HEADING_BYTES + ROW_BYTES * i))
+    }
+
+    fn term(&self, i: usize) -> Term<'a>
+        requires { i < 2048 }
+    {
+        Term(rest(self.pool, TERM_BYTES * i))
     }
 
     // Whether every word of heading, rows and pool that holds nothing is zero.
@@ -47,11 +55,7 @@ impl<'a> Table<'a> {
         let rows = self.row_count();
         let terms = self.term_count();
         zero(self.table, 8, HEADING_BYTES)
-            && self
-                .rows()
-                .chunks_exact(ROW_BYTES)
-                .take(rows)
-                .all(|b| Row(b).rest_zero())
+            && (0..rows).all(|i| self.row(i).rest_zero())
             && zero(self.table, HEADING_BYTES + ROW_BYTES * rows, TABLE_BYTES)
             && zero(self.pool, TERM_BYTES * terms, POOL_BYTES)
     }
@@ -70,15 +74,15 @@ impl<'a> Table<'a> {
     // The rows and the terms.
     pub fn put_lines<W: Write>(&self, out: &mut W) -> io::Result<()> {
         let rows = self.row_count();
-        for (i, b) in self.rows().chunks_exact(ROW_BYTES).take(rows).enumerate() {
+        for i in 0..rows {
             if is_shown(i, rows, 20) {
-                writeln!(out, "  row {i}: {}", Row(b))?;
+                writeln!(out, "  row {i}: {}", self.row(i))?;
             }
         }
         let terms = self.term_count();
-        for (i, b) in self.pool.chunks_exact(TERM_BYTES).take(terms).enumerate() {
+        for i in 0..terms {
             if is_shown(i, terms, 40) {
-                writeln!(out, "  term {i}: {}", Term(b))?;
+                writeln!(out, "  term {i}: {}", self.term(i))?;
             }
         }
         Ok(())

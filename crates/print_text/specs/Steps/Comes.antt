@@ -23,7 +23,6 @@ use Rattle.print_laws.specs.Laws.Room.{table-room, refusal-room, refuses, render
 use Rattle.call_given.specs.Laws.{Judged, turned_down, taken_up, judged, first-text}
 use Rattle.table_locate.specs.Laws.Exploring.{exploring-numbered}
 use Rattle.print_text.specs.Promise.{Prints}
-use Rattle.print_text.specs.Steps.Short.{names_short}
 use Rattle.print_text.specs.Steps.Explored.{explored_printable}
 
 -- what the call `explore` comes to, with room in the memory lent: the number of a refusal, or a table and its pool
@@ -89,7 +88,7 @@ table-prints :
     → Prints text b b' r
 table-prints names {text} {b = b} {b' = b'} {r = r} p w rows rest rest' e f i g g' named held d =
     let h : Printable text names p w rows =
-    explored_printable text names most_steps most_branches (accepted_well_formed text p e) (omega arith) (omega arith) f (named p e) (names_short text p e) in
+    explored_printable text names most_steps most_branches (accepted_well_formed text p e) (omega arith) (omega arith) f (named p e) in
     let t : Front (explored_text p (explored w rows)) b b' r = renders text names p w rows rest rest' h g g' held d in
     record { front = rw i t; whole = λ room. rw i (whole t (omega (arith, table-room text names p w rows h))) }
 

@@ -15,7 +15,7 @@ use Rattle.machine_code.specs.WellFormed as each
 use Rattle.text_tokens.specs.Mirror.Seen.{name_at}
 use Rattle.text_names.specs.declared.Names.{Names}
 use Rattle.print_lines.specs.Mirror.{nowhere}
-use Rattle.print_laws.specs.Laws.Printable.{RowFits, name_range, Printable}
+use Rattle.print_laws.specs.Laws.Printable.{RowFits, Printable}
 use Rattle.lent_words.specs.Laws.Reads.{Words}
 use Rattle.table_locate.specs.Laws.Sound as sound
 use Rattle.table_locate.specs.Laws.Sound.{Sound, TermsFit, no_term, next_term}
@@ -38,9 +38,8 @@ pub explored_printable :
     (text : List ℕ) (names : Names) {p : Program} {w : Pool} {rows : List (Row Ref)} (budget most : ℕ) → WellFormed p → budget ≤ most_steps → most ≤ most_branches
     → table p budget most ≡ explored w rows
     → ((k : ℕ) → k < length p.procedures → name_at text (get_or names.places k nowhere) ≡ (procedure_at p k).name)
-    → ((k : ℕ) → k < length p.procedures → length (procedure_at p k).name < name_range)
     → Printable text names p w rows
-explored_printable text names {p} {w} {rows} budget most well_formed small few e named short =
+explored_printable text names {p} {w} {rows} budget most well_formed small few e named =
     let s : Sound w rows = exploring-sound budget most well_formed small few e in
     record {
       few_terms = s.few_terms;
@@ -49,5 +48,4 @@ explored_printable text names {p} {w} {rows} budget most well_formed small few e
       rows_fit = rows_fit_lem s.few_terms s.rows (exploring-stands budget most well_formed small few e);
       few_procedures = well_formed.few_procedures;
       named = named;
-      short = short;
     }
