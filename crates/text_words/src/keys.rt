@@ -1,8 +1,8 @@
 // The reserved words, listed in one place, for whoever reads or writes them.
-ghost use Rattle.std.specs.Prelude.{◌≡◌};
+ghost use Rattle.std.specs.Prelude.{◌≡◌, map};
 ghost use Rattle.gil.specs.Text;
 ghost use Rattle.gil.specs.Text.{reserved_words};
-ghost use Rattle.text_words.specs.Mirror.Keys.{keyed, IsCandidate};
+ghost use Rattle.text_words.specs.Mirror.Keys.{entry, keyed, IsCandidate};
 
 use crate::words::same;
 
@@ -22,8 +22,7 @@ pub enum Key {
     Dispose,
 }
 
-// Each reserved word in its bytes, with its key, in the definitions' order: `table_is` (specs/Steps/Keys.antt) says so of the whole table, which
-// only a `const` is named to.
+// Each reserved word in its bytes, with its key, in the definitions' order: what `find` promises names the whole table, as it can of a `const`
 pub const RESERVED: [(&[u8], Key); 12] = [
     (b"ifgoto", Key::Ifgoto),
     (b"return", Key::Return),
@@ -69,9 +68,10 @@ fn candidate(run: &[u8]) -> Option<(&'static [u8], Key)>
     }
 }
 
-// which reserved word the run is
+// which reserved word the run is; the table holds the definitions' words and no other
 pub fn find(run: &[u8]) -> Option<Key>
-    ensures { Text.find run.now reserved_words ≡ keyed result }
+    ensures listed { map entry RESERVED ≡ reserved_words }
+    ensures found { Text.find run.now reserved_words ≡ keyed result }
 {
     let (word, key) = candidate(run)?;
     if same(run, word) { Some(key) } else { None }

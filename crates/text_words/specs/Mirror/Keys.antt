@@ -22,6 +22,13 @@ key_is Lookup = k_lookup
 key_is Mutate = k_mutate
 key_is Dispose = k_dispose
 
+-- an entry of the code's table, and as the definitions have it
+abbrev pub Entry : Type 0
+Entry = record { now : List ℕ } × Key
+
+abbrev pub entry : Entry → List ℕ × Text.Key
+entry e = (e.0.now, key_is e.1)
+
 unfoldable pub keyed : Option Key → M.Option Text.Key
 keyed None = M.none
 keyed (Some k) = M.some (key_is k)

@@ -5,10 +5,9 @@ use Rattle.std.proofs.Math.Option as M
 use Rattle.gil.specs.Text as Text
 use Rattle.gil.specs.Text.{find, same, bytes, reserved_words, k_ifgoto}
 use Rattle.gil.proofs.Theory.Tests.{no_false}
-use Rattle.text_words.specs.declared.keys.TheConstants.{RESERVED}
 use Rattle.text_words.specs.declared.keys.Key.{Key}
 use Rattle.text_words.specs.declared.keys.Key.TheVariants.{Ifgoto, Return, Fail, Vanish, True, False, Not, And, Or, Lookup, Mutate, Dispose}
-use Rattle.text_words.specs.Mirror.Keys.{key_is, keyed, reserved, started_by}
+use Rattle.text_words.specs.Mirror.Keys.{Entry, entry, key_is, keyed, reserved, started_by}
 use Rattle.text_words.specs.Laws.Words.{same-is}
 
 -- a reserved word is found by its first letter and its length
@@ -27,25 +26,14 @@ started-is Lookup = refl
 started-is Mutate = refl
 started-is Dispose = refl
 
--- an entry of the code's table, and as the definitions have it
-abbrev pub Entry : Type 0
-Entry = record { now : List ℕ } × Key
-
-abbrev pub entry : Entry → List ℕ × Text.Key
-entry e = (e.0.now, key_is e.1)
-
--- the code's table holds the definitions' reserved words, each by its number and with its key, and no other
-pub whole_table : map entry RESERVED ≡ reserved_words
-unfolding reserved_words bytes key_is
-whole_table = refl
-
 words-of : (l : List Entry) (k : ℕ) → get_or (map (λ (e : Entry). e.0.now) l) k [] ≡ (get_or (map entry l) k ([], k_ifgoto)).0
 words-of [] k = refl
 words-of (e ∷ l) zero = refl
 words-of (e ∷ l) (suc k) = words-of l k
 
-pub table_is : (k : ℕ) → get_or (map (λ (e : Entry). e.0.now) RESERVED) k [] ≡ (get_or reserved_words k ([], k_ifgoto)).0
-table_is k = words-of RESERVED k ∙ ap (λ (l : List (List ℕ × Text.Key)). (get_or l k ([], k_ifgoto)).0) whole_table
+-- a table that holds the definitions' reserved words, as `find` says of the code's, has each by its number
+pub table_is : (l : List Entry) → map entry l ≡ reserved_words → (k : ℕ) → get_or (map (λ (e : Entry). e.0.now) l) k [] ≡ (get_or reserved_words k ([], k_ifgoto)).0
+table_is l e k = words-of l k ∙ ap (λ (m : List (List ℕ × Text.Key)). (get_or m k ([], k_ifgoto)).0) e
 
 found-is : (k : Key) → find (reserved k) reserved_words ≡ M.some (key_is k)
 unfolding find same reserved reserved_words bytes key_is

@@ -6,7 +6,7 @@ pub returns-then-run-gt-MOST_CHARACTERS : goal.returns-then-run-gt-MOST_CHARACTE
 returns-then-run-gt-MOST_CHARACTERS c = identifier-long c.args.run.now c.if-run-gt-MOST_CHARACTERS.true
 
 pub returns-in-Some : goal.returns-in-Some
-returns-in-Some c = identifier-key c.args.run.now c.in-Some.key c.if-run-gt-MOST_CHARACTERS.false c.in-Some.ensures
+returns-in-Some c = identifier-key c.args.run.now c.in-Some.key c.if-run-gt-MOST_CHARACTERS.false c.in-Some.ensures.found
 
 pub returns : goal.returns
-returns c = identifier-other c.args.run.now c.symbol_of.result c.if-run-gt-MOST_CHARACTERS.false c.in_default.ensures c.symbol_of.ensures
+returns c = identifier-other c.args.run.now c.symbol_of.result c.if-run-gt-MOST_CHARACTERS.false c.in_default.ensures.found c.symbol_of.ensures
