@@ -2,7 +2,7 @@
 ghost use Rattle.std.specs.Prelude.{◌≡◌, map};
 ghost use Rattle.gil.specs.Text;
 ghost use Rattle.gil.specs.Text.{reserved_words};
-ghost use Rattle.text_words.specs.Mirror.Keys.{entry, keyed, IsCandidate};
+ghost use Rattle.text_words.specs.Mirror.Keys.{entry, keyed, taken_in};
 
 use crate::words::same;
 
@@ -38,32 +38,41 @@ pub const RESERVED: [(&[u8], Key); 12] = [
     (b"dispose", Key::Dispose),
 ];
 
-// The one reserved word that a run may be, by its first letter and its length: to compare it with each of the table in turn would cost a
+// The key of an entry of the table where the run is its word. Each call names the entry, so that the word's own bytes are compared with.
+#[inline(always)]
+fn taken(run: &[u8], entry: (&[u8], Key)) -> Option<Key>
+    ensures { result ≡ taken_in run.now entry.entry.0.now entry.entry.1 }
+{
+    let (word, key) = entry;
+    if same(run, word) { Some(key) } else { None }
+}
+
+// Which reserved word the run is. By its first letter and its length it may be one: to compare it with each of the table in turn would cost a
 // text's check more than it may take.
-fn candidate(run: &[u8]) -> Option<(&'static [u8], Key)>
-    ensures { IsCandidate run.now result }
+fn looked_up(run: &[u8]) -> Option<Key>
+    ensures { Text.find run.now reserved_words ≡ keyed result }
 {
     if run.is_empty() {
         return None;
     }
     match run[0] {
-        b'i' => Some(RESERVED[0]),
-        b'r' => Some(RESERVED[1]),
+        b'i' => taken(run, RESERVED[0]),
+        b'r' => taken(run, RESERVED[1]),
         b'f' => {
             if run.len() == 5 {
-                Some(RESERVED[5])
+                taken(run, RESERVED[5])
             } else {
-                Some(RESERVED[2])
+                taken(run, RESERVED[2])
             }
         }
-        b'v' => Some(RESERVED[3]),
-        b't' => Some(RESERVED[4]),
-        b'n' => Some(RESERVED[6]),
-        b'a' => Some(RESERVED[7]),
-        b'o' => Some(RESERVED[8]),
-        b'l' => Some(RESERVED[9]),
-        b'm' => Some(RESERVED[10]),
-        b'd' => Some(RESERVED[11]),
+        b'v' => taken(run, RESERVED[3]),
+        b't' => taken(run, RESERVED[4]),
+        b'n' => taken(run, RESERVED[6]),
+        b'a' => taken(run, RESERVED[7]),
+        b'o' => taken(run, RESERVED[8]),
+        b'l' => taken(run, RESERVED[9]),
+        b'm' => taken(run, RESERVED[10]),
+        b'd' => taken(run, RESERVED[11]),
         _ => None,
     }
 }
@@ -73,6 +82,5 @@ pub fn find(run: &[u8]) -> Option<Key>
     ensures listed { map entry RESERVED ≡ reserved_words }
     ensures found { Text.find run.now reserved_words ≡ keyed result }
 {
-    let (word, key) = candidate(run)?;
-    if same(run, word) { Some(key) } else { None }
+    looked_up(run)
 }

@@ -52,6 +52,10 @@ reserved Dispose = bytes "dispose"
 abbrev pub IsCandidate : List ℕ → Option (Bor (List ℕ) × Key) → Type 0
 IsCandidate w r = MatchOption r ((k : Key) → same w (reserved k) ≡ false) (λ e. (e.0.now ≡ reserved e.1) × ((k : Key) → same w (reserved k) ≡ true → k ≡ e.1))
 
+-- the key of an entry where the run is its word
+unfoldable pub taken_in : List ℕ → List ℕ → Key → Option Key
+taken_in w word k = elim (same w word) [ true ↦ Some k | false ↦ None ]
+
 -- the first letter and the length leave one reserved word to be looked up
 unfoldable pub started_by : ℕ → ℕ → Option Key
 started_by b n =

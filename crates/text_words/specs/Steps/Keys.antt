@@ -7,7 +7,7 @@ use Rattle.gil.specs.Text.{find, same, bytes, reserved_words, k_ifgoto}
 use Rattle.gil.proofs.Theory.Tests.{no_false}
 use Rattle.text_words.specs.declared.keys.Key.{Key}
 use Rattle.text_words.specs.declared.keys.Key.TheVariants.{Ifgoto, Return, Fail, Vanish, True, False, Not, And, Or, Lookup, Mutate, Dispose}
-use Rattle.text_words.specs.Mirror.Keys.{Entry, entry, key_is, keyed, reserved, started_by}
+use Rattle.text_words.specs.Mirror.Keys.{Entry, entry, key_is, keyed, reserved, started_by, taken_in}
 use Rattle.text_words.specs.Laws.Words.{same-is}
 
 -- a reserved word is found by its first letter and its length
@@ -97,6 +97,26 @@ module _ (w : List ℕ) where
   -- the one word that it may be is another
   pub key-other : (j : Key) → ((k : Key) → same w (reserved k) ≡ true → k ≡ j) → same w (reserved j) ≡ false → find w reserved_words ≡ keyed None
   key-other j h e = key-none (λ k. refuted (same w (reserved k)) (λ t. no_false (ap (λ (i : Key). same w (reserved i)) (sym (h k t)) ∙ t) e))
+
+  -- the run looked up by the one entry that it may be
+  pub key-by : {r : Option Key} (k : Key) (word : List ℕ) → (word ≡ reserved k) × ((j : Key) → same w (reserved j) ≡ true → j ≡ k) → r ≡ taken_in w word k → find w reserved_words ≡ keyed r
+  unfolding taken_in
+  key-by k word (e, h) q = by (same w (reserved k)) refl (q ∙ ap (λ (x : List ℕ). taken_in w x k) e)
+    where
+      by : {r : Option Key} (b : Bool) → same w (reserved k) ≡ b → r ≡ elim b [ true ↦ Some k | false ↦ None ] → find w reserved_words ≡ keyed r
+      by true z q = key-found k z ∙ ap keyed (sym q)
+      by false z q = key-other k h z ∙ ap keyed (sym q)
+
+by_truth : Bool → Key → Option Key
+by_truth b k = elim b [ true ↦ Some k | false ↦ None ]
+
+pub taken-yes : (w word : List ℕ) (k : Key) → same w word ≡ true → Some k ≡ taken_in w word k
+unfolding taken_in by_truth
+taken-yes w word k e = sym (ap (λ (b : Bool). by_truth b k) e)
+
+pub taken-no : (w word : List ℕ) (k : Key) → same w word ≡ false → None ≡ taken_in w word k
+unfolding taken_in by_truth
+taken-no w word k e = sym (ap (λ (b : Bool). by_truth b k) e)
 
 off : {t : Bool} (x : Option Key) {y : Option Key} → t ≡ false → elim t [ true ↦ x | false ↦ y ] ≡ y
 off x e = rw e
