@@ -1,17 +1,34 @@
--- The law that `render`'s own proof cites: the whole table. Assumes nothing.
-use Rattle.std.specs.Prelude.{ℕ, ◌≡◌, List}
-use Rattle.std.proofs.Common.{◌∙◌, ap, ap₂}
+-- The laws that the functions' own proofs cite: a name, by its place in the table of names, and the whole table. Assumes nothing.
+use Rattle.std.specs.Prelude.{ℕ, ◌≡◌, List, get_or, map, Option}
+use Rattle.std.proofs.Common.{sym, ◌∙◌, ap, ap₂}
+use Rattle.std.proofs.Math.ListN.{get_or-map}
+use Rattle.std.specs.Option.{unwrap_or}
 use Rattle.gil.specs.Numbers.{most_terms, most_rows}
+use Rattle.gil.specs.Text.{part}
 use Rattle.gil.specs.Printed.{heading}
 use Rattle.lent_words.specs.Mirror.{at_most}
+use Rattle.text_tokens.specs.declared.tokens.Place.{Place}
+use Rattle.text_tokens.specs.Mirror.Seen.{name_at}
 use Rattle.text_names.specs.declared.Names.{Names}
 use Rattle.print_writing.specs.declared.Page.{Page}
 use Rattle.print_writing.specs.Mirror.{Writes}
 use Rattle.print_writing.specs.Laws.{write_on, writes_as}
-use Rattle.print_lines.specs.Mirror.{sizes_in, row_form, table_form}
+use Rattle.print_lines.specs.Mirror.{nowhere, sizes_in, row_form, table_form}
 use Rattle.print_fields.specs.Mirror.{no_sizes, sizes_to}
 use Rattle.print_parts.specs.Mirror.{runs}
 use Rattle.lent_words.specs.Mirror.{word_at}
+
+-- a name, where an empty place stands for each that the table has none of
+pub name-read :
+    (text : List ℕ) (places : List Place) (f : ℕ) {o o' : Option Place} {q : Place} (d : Place) → q ≡ unwrap_or o d → o ≡ o'
+    → ((d : Place) → unwrap_or o' d ≡ get_or places f d) → d.start ≡ 0 → d.size ≡ 0 → name_at text q ≡ name_at text (get_or places f nowhere)
+unfolding name_at
+name-read text places f d e g there start size =
+    let none : name_at text d ≡ name_at text nowhere = ap₂ (part text) start size in
+    ap (name_at text) (e ∙ ap (λ (o : Option Place). unwrap_or o d) g ∙ there d)
+    ∙ sym (get_or-map (name_at text) places f d)
+    ∙ ap (get_or (map (name_at text) places) f) none
+    ∙ get_or-map (name_at text) places f nowhere
 
 pub table-by :
     (text : List ℕ) (names : Names) (table pool : List ℕ) {pool' ss : List ℕ} {p q r : Page} {terms rows n : ℕ} → terms ≡ word_at table 4 → pool' ≡ pool

@@ -14,6 +14,7 @@ use print_fields::Fields;
 use print_parts::Row;
 use print_writing::{Page, Text};
 use text_names::Names;
+use text_tokens::tokens::NOWHERE;
 
 // A text, and where it has the names of its procedures (crates/text_names)
 #[derive(Drop)]
@@ -29,7 +30,7 @@ impl Named<'_> {
     {
         let k = f as usize;
         if k < limits::MOST_PROCEDURES {
-            let place = self.names.places[k];
+            let place = self.names.places.get(k).copied().unwrap_or(NOWHERE);
             page.put_part(self.text, place.start, place.size);
         }
     }

@@ -21,7 +21,7 @@ pub record RowFits (procedures : ℕ) (r : Row Ref) : Type 0 where
   pub words : Words (row_words ref_tag place_in r)
   pub procedure : r.procedure < procedures
 
--- a name is shorter than this
+-- a name is shorter than this, as each place in a table of names is (crates/text_tokens)
 abbrev pub name_range : ℕ
 name_range = 32
 
@@ -33,4 +33,3 @@ pub record Printable (text : List ℕ) (names : Names) (p : Program) (w : Pool) 
   pub rows_fit : Each (RowFits (length p.procedures)) rows
   pub few_procedures : length p.procedures ≤ most_procedures
   pub named : (f : ℕ) → f < length p.procedures → name_at text (get_or names.places f nowhere) ≡ (procedure_at p f).name
-  pub short : (f : ℕ) → f < length p.procedures → length (procedure_at p f).name < name_range

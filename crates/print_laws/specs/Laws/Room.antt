@@ -1,14 +1,14 @@
 -- "At most 262,144 bytes": every printable table's text fits, and so do the refusals; so what is written stands at the front of the memory,
 -- as far as there is room, and is counted whole. Assumes nothing.
-use Rattle.std.specs.Prelude.{ℕ, suc, ◌+◌, ◌*◌, ◌≤◌, ◌<◌, ◌≡◌, Bool, length}
+use Rattle.std.specs.Prelude.{ℕ, suc, ◌+◌, ◌*◌, ◌≤◌, ◌<◌, ◌≡◌, Bool, length, get_or, drop}
 use native.Mathlib.Omega.{arith}
-use Rattle.std.proofs.Common.{◌∙◌, ap}
+use Rattle.std.proofs.Common.{◌∙◌, ap, length-take}
 use Rattle.std.proofs.Math.Bool.{true, false}
 use mathlib.Core.List.{List, [], ◌∷◌, ◌++◌}
 use Rattle.std.proofs.Math.Option.{Option}
 use Rattle.std.proofs.Math.ListN.{length-append}
 use Rattle.gil.specs.Numbers.{most_branches}
-use Rattle.gil.specs.Text.{bytes}
+use Rattle.gil.specs.Text.{bytes, part}
 use Rattle.gil.specs.Names.{Program}
 use Rattle.gil.specs.Values.{Value, term}
 use Rattle.gil.specs.Machine.{procedure_at, End, returned, failed, vanished, error}
@@ -17,13 +17,15 @@ use Rattle.gil.specs.Explore.{explored}
 use Rattle.gil.specs.Pool.{Ref, Pool}
 use Rattle.gil.specs.Layout.{pool_bytes, table_bytes}
 use Rattle.gil.specs.Printed.{pool_texts, or_large, value_field, end_fields, outcome_fields, unless_true, condition_text, conditions_after, conditions_field, line_end, row_line, row_lines, heading, refusal_line, explored_text}
+use Rattle.text_tokens.specs.declared.tokens.Place.{Place}
+use Rattle.text_tokens.specs.Mirror.Seen.{name_at}
 use Rattle.text_names.specs.declared.Names.{Names}
 use Rattle.machine_code.specs.WellFormed.{Each}
 use Rattle.machine_code.specs.WellFormed as each
 use Rattle.print_writing.specs.Mirror.{last_place, Wrote}
 use Rattle.print_writing.specs.Laws.{wrote_as, Front, front, decimal-length}
 use Rattle.print_fields.specs.Mirror.{longest}
-use Rattle.print_lines.specs.Mirror.{table_form}
+use Rattle.print_lines.specs.Mirror.{nowhere, table_form}
 use Rattle.print_laws.specs.Laws.Printable.{RowFits, name_range, Printable}
 use Rattle.print_laws.specs.Laws.Texts.{Short, large, short, Shorts, value-short, pool-shorts}
 use Rattle.print_laws.specs.Laws.Lines.{table_law}
@@ -90,13 +92,22 @@ module _ (p : Program) (ts : List (Option (List ℕ))) (f : Shorts ts) where
       simp length-append
       (omega (arith, line-length k a g.within.conditions (n a.procedure g.procedure), lines-length (suc k) gs n))
 
+-- a name's length is its place's size, which is below 32
+pub name-length :
+    (text : List ℕ) (names : Names) (p : Program) (w : Pool) (rows : List (Row Ref)) → Printable text names p w rows → (g : ℕ)
+    → g < length p.procedures → length (procedure_at p g).name < name_range
+unfolding name_at part
+name-length text names p w rows f g h =
+    let q : Place = get_or names.places g nowhere in
+    rw (← f.named g h) (omega (arith, length-take q.size (drop q.start text), q.short))
+
 pub table-room :
     (text : List ℕ) (names : Names) (p : Program) (w : Pool) (rows : List (Row Ref)) → Printable text names p w rows
     → length (explored_text p (explored w rows)) ≤ printed_length
 unfolding explored_text heading bytes line_end
 table-room text names p w rows f =
     omega
-    (arith, f.few_rows, lines-length p (pool_texts w) (pool-shorts w [] f.few_terms f.terms_fit) 0 f.rows_fit f.short)
+    (arith, f.few_rows, lines-length p (pool_texts w) (pool-shorts w [] f.few_terms f.terms_fit) 0 f.rows_fit (name-length text names p w rows f))
 
 pub refusal-room : (n : ℕ) → length (refusal_line n) ≤ 20
 unfolding refusal_line bytes line_end
