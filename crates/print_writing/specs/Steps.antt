@@ -9,7 +9,7 @@ use Rattle.gil.specs.Text.{part}
 use Rattle.gil.specs.Printed.{digits, decimal}
 use Rattle.machine_code.specs.Mirror.{if?}
 use Rattle.print_writing.specs.Mirror.{last_place, next, reached, filled, Wrote, Writes}
-use Rattle.print_writing.specs.Laws.{wrote_as, writes_as, write_on}
+use Rattle.print_writing.specs.Laws.{join, wrote_as, writes_as, write_on}
 use Rattle.print_writing.specs.declared.Page.{Page}
 
 -- the next place is the sum, or the last one
@@ -68,7 +68,12 @@ part_there s from n = by (ltb (length s) from) (ltb (length s) (from + n)) refl 
         let j : min (from + n) (length s) ≡ from + n = omega arith in
         ap₂ (λ (k m : ℕ). take (k - m) (drop m s)) j i ∙ part-whole s from n
 
--- a text's bytes, one after another
+-- a text's bytes, one after another: in memory, and on a page
+pub byte_more :
+    (s : List ℕ) (i : ℕ) {b b' b'' : List ℕ} {at m r : ℕ} → i < length s → Wrote b at (take i s) b' m → Wrote b' m (get_or s i 0 ∷ []) b'' r
+    → Wrote b at (take (i + 1) s) b'' r
+byte_more s i h v w = wrote_as (sym (ap (λ (k : ℕ). take k s) (add-one i) ∙ take-suc s i 0 h)) (join v w)
+
 pub all_more :
     (s : List ℕ) (i : ℕ) {p q r : Page} → i < length s → Writes p (take i s) q → Writes q (get_or s i 0 ∷ []) r
     → Writes p (take (i + 1) s) r

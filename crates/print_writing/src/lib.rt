@@ -5,7 +5,7 @@
 ghost use Rattle.std.specs.Prelude.{◌≡◌, ◌≤◌, ℕ, List, [], ◌∷◌, length};
 ghost use Rattle.gil.specs.Text.{part};
 ghost use Rattle.gil.specs.Printed.{digits, decimal};
-ghost use Rattle.print_writing.specs.Mirror.{last_place, Writes};
+ghost use Rattle.print_writing.specs.Mirror.{last_place, Wrote, Writes};
 
 use itoa::Buffer;
 
@@ -14,6 +14,26 @@ use itoa::Buffer;
 pub struct Page<'a> {
     out: &'a mut [u8],
     at: usize,
+}
+
+// A byte at a place, and the place after it. The two go by value, since a page's own place would be loaded and stored at each byte.
+fn put(out: &mut [u8], at: usize, x: u8) -> usize
+    ensures { Wrote out.old at (x ∷ []) out.new result }
+{
+    if at < out.len() {
+        out[at] = x;
+    }
+    at.saturating_add(1)
+}
+
+fn put_all(out: &mut [u8], at: usize, s: &[u8]) -> usize
+    ensures { Wrote out.old at s.now out.new result }
+{
+    let mut place = at;
+    for &x in s {
+        place = put(out, place, x);
+    }
+    place
 }
 
 impl<'a> Page<'a> {
@@ -44,18 +64,13 @@ impl<'a> Page<'a> {
     pub fn put(&mut self, x: u8)
         ensures { Writes self.old (x ∷ []) self.new }
     {
-        if self.at < self.out.len() {
-            self.out[self.at] = x;
-        }
-        self.at = self.at.saturating_add(1);
+        self.at = put(self.out, self.at, x);
     }
 
     pub fn put_all(&mut self, s: &[u8])
         ensures { Writes self.old s.now self.new }
     {
-        for &x in s {
-            self.put(x);
-        }
+        self.at = put_all(self.out, self.at, s);
     }
 
     // The `n` bytes of a text from a place, or those of them that are there
