@@ -1,6 +1,9 @@
 // Expressions, "at most eight deep": read by recursion with the depth that is left, into prefix words.
-ghost use Rattle.std.specs.Prelude.{◌≡◌, suc};
+ghost use Rattle.std.specs.Prelude.{◌≡◌, ◌<◌, suc};
+ghost use Rattle.gil.specs.Text.{lexeme};
 ghost use Rattle.gil.specs.Reading.{expr_deep, bracketed};
+ghost use Rattle.text_tokens.specs.declared.tokens.Token.TheVariants.{Reserved};
+ghost use Rattle.text_tokens.specs.Mirror.Seen.{Found};
 ghost use Rattle.text_forms.specs.Mirror.Goes.{Passes};
 ghost use Rattle.text_forms.specs.Mirror.Stores.{put_number, after_number};
 ghost use Rattle.text_forms.specs.Mirror.Wrote.{Wrote};
@@ -57,24 +60,42 @@ pub fn expr(
             number(code, n);
             Some(t.next)
         }
-        // not in a function of its own, so that a row of `not` is read in a loop
-        Token::Reserved(key) => match key {
-            Key::True => {
-                code.push(TRUTH + 1);
-                Some(t.next)
-            }
-            Key::False => {
-                code.push(TRUTH);
-                Some(t.next)
-            }
-            Key::Not => {
-                code.push(NOT);
-                expr(text, t.next, depth - 1, vars, code)
-            }
-            _ => None,
-        },
+        Token::Reserved(key) => reserved(text, at, key, t.next, depth, vars, code),
         Token::Mark(b'(') => operation(text, t.next, depth - 1, vars, code),
         Token::Mark(_) => None,
+        _ => None,
+    }
+}
+
+// an expression that begins with a reserved word, which ends at `after`
+#[cycle(expr_operation)]
+fn reserved(
+    text: &Text,
+    at: usize,
+    key: Key,
+    after: usize,
+    depth: usize,
+    vars: &mut Names,
+    code: &mut Words,
+) -> Option<usize>
+    requires begins { Found text.now at (lexeme text.now at) (Reserved key) after }
+    requires deep { 0 < depth }
+    ensures same { code.new.code.ghost_name ≡ code.old.code.ghost_name }
+    ensures read { Passes text.now (suc at) (Wrote text.now vars.old vars.new code.old.code.now code.new.code.now code.old.out code.new.out) (expr_deep depth text.now at) result }
+{
+    match key {
+        Key::True => {
+            code.push(TRUTH + 1);
+            Some(after)
+        }
+        Key::False => {
+            code.push(TRUTH);
+            Some(after)
+        }
+        Key::Not => {
+            code.push(NOT);
+            expr(text, after, depth - 1, vars, code)
+        }
         _ => None,
     }
 }

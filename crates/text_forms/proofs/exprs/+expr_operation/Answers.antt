@@ -1,6 +1,6 @@
--- `exprs::expr` and `operation`, which call each other, meet their contracts. Assumes nothing.
+-- `exprs::expr`, `reserved` and `operation`, which call each other, meet their contracts. Assumes nothing.
 use Rattle.std.specs.Prelude.{◌-◌, true, false}
-use Rattle.std.proofs.Common.{refl, ◌∙◌}
+use Rattle.std.proofs.Common.{refl, ◌∙◌, arith}
 use Rattle.gil.specs.Layout.{bit}
 use Rattle.gil.specs.Tree.{bin}
 use Rattle.gil.specs.Reading.{expr_deep, bracketed, ◌>>=◌, ◌>>◌}
@@ -28,19 +28,19 @@ expr-returns-in-Mark-clause-read t c = mark-none c.token-t.ensures c.args.depth 
 pub expr-returns-in_default-clause-read : goal.expr-returns-in_default-clause-read
 expr-returns-in_default-clause-read t c = expr-none c.token-t.ensures c.args.depth c.if-depth-eq0.false c.in_default.not-Name c.in_default.not-Number c.in_default.not-Reserved c.in_default.not-Mark
 
-pub expr-returns-in-True-clause-read : goal.expr-returns-in-True-clause-read
+pub reserved-returns-in-True-clause-read : goal.reserved-returns-in-True-clause-read
 unfolding bit
-expr-returns-in-True-clause-read t c = leaf-true c.token-t.ensures c.args.depth c.if-depth-eq0.false c.in-Reserved.key c.in-Reserved.is c.in-True.is (wrote_bool true _ refl c.push-in-True.ensures.next c.push-in-True.ensures.words)
+reserved-returns-in-True-clause-read t c = leaf-true c.requires.begins c.args.depth (omega (arith, c.requires.deep)) c.args.key refl c.in-True.is (wrote_bool true _ refl c.push.ensures.next c.push.ensures.words)
 
-pub expr-returns-in-False-clause-read : goal.expr-returns-in-False-clause-read
+pub reserved-returns-in-False-clause-read : goal.reserved-returns-in-False-clause-read
 unfolding bit
-expr-returns-in-False-clause-read t c = leaf-false c.token-t.ensures c.args.depth c.if-depth-eq0.false c.in-Reserved.key c.in-Reserved.is c.in-False.is (wrote_bool false _ refl c.push-in-False.ensures.next c.push-in-False.ensures.words)
+reserved-returns-in-False-clause-read t c = leaf-false c.requires.begins c.args.depth (omega (arith, c.requires.deep)) c.args.key refl c.in-False.is (wrote_bool false _ refl c.push-in-False.ensures.next c.push-in-False.ensures.words)
 
-pub expr-returns-in-Not-clause-read : goal.expr-returns-in-Not-clause-read
-expr-returns-in-Not-clause-read t c = form-not c.token-t.ensures c.args.depth c.if-depth-eq0.false c.in-Reserved.key c.in-Reserved.is c.in-Not.is (negation-goes (expr_deep (c.args.depth - 1)) (λ a q. wrote_neg c.push-in-Not.ensures.words c.push-in-Not.ensures.next q) c.expr.ensures.read)
+pub reserved-returns-in-Not-clause-read : goal.reserved-returns-in-Not-clause-read
+reserved-returns-in-Not-clause-read t c = form-not c.requires.begins c.args.depth (omega (arith, c.requires.deep)) c.args.key refl c.in-Not.is (negation-goes (expr_deep (c.args.depth - 1)) (λ a q. wrote_neg c.push-in-Not.ensures.words c.push-in-Not.ensures.next q) c.expr.ensures.read)
 
-pub expr-returns-in_default-key : goal.expr-returns-in_default-key
-expr-returns-in_default-key t c = record { same = refl; read = form-none c.token-t.ensures c.args.depth c.if-depth-eq0.false c.in-Reserved.key c.in-Reserved.is c.in_default-key.not-True c.in_default-key.not-False c.in_default-key.not-Not }
+pub reserved-returns-in_default-clause-read : goal.reserved-returns-in_default-clause-read
+reserved-returns-in_default-clause-read t c = form-none c.requires.begins c.args.depth (omega (arith, c.requires.deep)) c.args.key refl c.in_default.not-True c.in_default.not-False c.in_default.not-Not
 
 pub operation-returns-in_err-at-clause-read : goal.operation-returns-in_err-at-clause-read
 unfolding bracketed ◌>>=◌
