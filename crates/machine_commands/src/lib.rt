@@ -48,7 +48,7 @@ pub struct Command {
 }
 
 // What a command comes to. A value is its tag and its word; a fork has its term's place and where each branch goes on. Every field is of 32
-// bits, so that none lies across two others and the compiler keeps each in a register.
+// bits, but an error's, of 8: so none lies across two others and the compiler keeps each in a register.
 #[derive(Clone, Copy)]
 pub enum Next {
     On(Control),
