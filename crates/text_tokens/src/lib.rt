@@ -4,5 +4,7 @@
 
 pub mod lexemes;
 pub mod scan;
+#[cfg(test)]
+mod tests;
 pub mod texts;
 pub mod tokens;

@@ -1,18 +1,26 @@
 // A text that may be read: "at most 16,384 bytes".
 ghost use Rattle.std.specs.Prelude.{◌≡◌, ◌+◌, ◌≤◌, ◌<◌, length, MatchOption};
 ghost use Rattle.gil.specs.Numbers.{most_bytes};
+ghost use Rattle.gil.specs.Text.{part};
 ghost use Rattle.text_tokens.specs.Mirror.Seen.{name_at};
 
 use crate::tokens::Place;
 use gil::limits::MOST_BYTES;
 use std::marker::Model;
 
+// what stands from a byte on, of any size, as far as it lies in the bytes
+pub fn part(bytes: &[u8], start: u32, size: u32) -> &[u8]
+    ensures { result.now ≡ part bytes.now start size }
+{
+    let rest = &bytes[bytes.len().min(start as usize)..];
+    &rest[..rest.len().min(size as usize)]
+}
+
 // what stands at a place, as far as it lies in the bytes
 pub fn name(bytes: &[u8], place: Place) -> &[u8]
     ensures { result.now ≡ name_at bytes.now place }
 {
-    let rest = &bytes[bytes.len().min(place.start as usize)..];
-    &rest[..rest.len().min(place.size as usize)]
+    part(bytes, place.start, place.size)
 }
 
 #[derive(Drop)]
